@@ -1,0 +1,9 @@
+pub mod TopologyLaws
+pub mod LevelLaws
+pub mod OwnedLaws
+pub mod SoundnessLaws
+pub mod PairingLaws
+pub mod HeldLaws
+pub mod RoundLaws
+pub mod MakingLaws
+pub mod LaidLaws

@@ -1,0 +1,10 @@
+pub mod Lists
+pub mod Topologies
+pub mod Pairing
+pub mod Levels
+pub mod Soundness
+pub mod Owned
+pub mod Spans
+pub mod Tables
+pub mod Links
+pub mod Wirings
