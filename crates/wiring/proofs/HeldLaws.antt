@@ -1,7 +1,7 @@
 -- What a wiring's record says of the wiring.
 use Prim.Native.Nat.{ℕ, suc, _+_, _*_, _/_, _%_, _<_, _≤_}
 use native.Mathlib.Omega.{arith}
-use mathlib.Core.Path.{_≡_, refl, sym, ap, ap₂, subst, _∙_}
+use mathlib.Core.Path.{_≡_, refl, sym, ap, subst, _∙_}
 use mathlib.Core.List.{List, [], _∷_, map}
 use mathlib.Core.Bool.{Bool, true, false, cond}
 use lib.Dec.{eqb, ltb}
@@ -9,12 +9,12 @@ use lib.ListN.{length, getD, take}
 use Rattle.std.specs.Options.{isSome}
 use Rattle.std.specs.declared.option.Option.{Option}
 use Rattle.std.specs.declared.option.Option.the-variants.{Some, None}
-use Rattle.std.proofs.shelf.Lists.{length-map, length-take-le, getD-map, getD-take, getD-past, getD-default, same-lists}
+use Rattle.std.proofs.shelf.Lists.{length-map, length-take-le, getD-map, getD-take, getD-past}
 use Rattle.std.proofs.shelf.Ways.{tells}
 use Rattle.wiring.specs.declared.links.Link.{Link}
 use Rattle.wiring.specs.declared.wirings.Wiring.{Wiring}
 use Rattle.wiring.specs.Topologies.{Topology, Valid, channels, partner, end-of, from, into}
-use Rattle.wiring.specs.Links.{ends-of, fresh, drawn, no-link}
+use Rattle.wiring.specs.Links.{ends-of, no-link}
 use Rattle.wiring.specs.Wirings.{topology}
 use Rattle.wiring.specs.Soundness.{topology-fault}
 use Rattle.wiring.proofs.SoundnessLaws.{sound-valid}
@@ -30,9 +30,6 @@ valid w = sound-valid (topology w) (untold (topology-fault (topology w)) (w .sou
 
 pub links-count : (w : Wiring) → length (topology w .links) ≡ w .count
 links-count w = let h = w .held in let r = w .room in length-map (take (w .count) (w .links)) ends-of ∙ length-take-le (w .count) (w .links) (omega arith)
-
-pub channel-count : (w : Wiring) → 2 * w .count ≡ channels (topology w)
-channel-count w = ap (λ n. 2 * n) (sym (links-count w))
 
 pub link-at : (w : Wiring) (j : ℕ) → j < w .count → getD (topology w .links) j (0, 0) ≡ ends-of (getD (w .links) j no-link)
 link-at w j l =
@@ -55,26 +52,3 @@ partner-past c l = grind (arith, tells)
 
 pub into-past : (w : Wiring) (c : ℕ) → 240 ≤ c → 0 ≡ into (topology w) c
 into-past w c l = let r = w .room in let p = partner-past c l in from-past w (partner c) (omega arith)
-
-fresh-link : (l : Link) → l .forth ≡ 1 → l .back ≡ 1 → l ≡ fresh (ends-of l)
-fresh-link l p q = ap₂ (λ (x y : ℕ). record { first = l .first; second = l .second; forth = x; back = y }) p q
-
--- the links are held with their loads at 1
-pub links-fresh : (w : Wiring) → take (w .count) (w .links) ≡ map fresh (topology w .links)
-links-fresh w =
-    let h = w .held in
-    let r = w .room in
-    let long : length (take (w .count) (w .links)) ≡ w .count = length-take-le (w .count) (w .links) (omega arith) in
-    let rows : length (topology w .links) ≡ w .count = links-count w in
-    same-lists _ _ (long ∙ sym (length-map (topology w .links) fresh ∙ rows)) (λ k d l. at k d (omega arith))
-  where
-    at : (k : ℕ) (d : Link) → k < w .count → getD (take (w .count) (w .links)) k d ≡ getD (map fresh (topology w .links)) k d
-    at k d l =
-        let rows : length (topology w .links) ≡ w .count = links-count w in
-        let h = w .held in
-        let r = w .room in
-        getD-take (w .count) (w .links) k d l
-        ∙ getD-default (w .links) k d no-link (omega arith)
-        ∙ fresh-link (getD (w .links) k no-link) (w .forth k l) (w .back k l)
-        ∙ ap fresh (sym (link-at w k l))
-        ∙ sym (getD-map fresh (topology w .links) k (0, 0) d (omega arith))

@@ -22,7 +22,7 @@ use Rattle.wiring.specs.Owned.{own, laid, Owns}
 use Rattle.wiring.specs.Spans.{part}
 use Rattle.wiring.specs.Wirings.{topology}
 use Rattle.wiring.proofs.TopologyLaws.{length-range}
-use Rattle.wiring.proofs.HeldLaws.{valid, channel-count}
+use Rattle.wiring.proofs.HeldLaws.{valid}
 use Rattle.wiring.proofs.OwnedLaws.{inward-partners, own-starts, own-ascends, partners-ascend}
 
 -- ---- what is kept of a range
@@ -172,7 +172,7 @@ own-laws w ok n = record {
 }
 
 pub few-channels : (w : Wiring) → channels (topology w) ≤ 240
-few-channels w = let r = w .room in let e = channel-count w in omega arith
+few-channels w = let r = w .room in let e = w .pairs in omega arith
 
 -- no channel starts past the last node
 module _ (w : Topology) (ok : Valid w) (n : ℕ) (past : w .nodes ≤ n) where

@@ -1,5 +1,5 @@
 -- Links that are looked at and taken over one by one.
-use Prim.Native.Nat.{ℕ, zero, suc, _+_, _<_, _≤_}
+use Prim.Native.Nat.{ℕ, zero, suc, _+_, _*_, _<_, _≤_}
 use native.Mathlib.Omega.{arith}
 use native.Mathlib.Numerals.{add-one}
 use mathlib.Core.Path.{_≡_, refl, sym, ap, subst, _∙_}
@@ -11,13 +11,13 @@ use Rattle.std.specs.Options.{isSome, mapped}
 use Rattle.std.specs.declared.result.Result.the-variants.{Ok, Err}
 use Rattle.std.specs.declared.option.Option.{Option}
 use Rattle.std.specs.declared.option.Option.the-variants.{Some, None}
-use Rattle.std.proofs.shelf.Lists.{length-map, getD-map, at-drop-more, at-drop-all, map-more, take-more-set, take-all, map-push, take-map, getD-take}
+use Rattle.std.proofs.shelf.Lists.{length-map, getD-map, at-drop-more, at-drop-all, map-more, take-more-set, take-all, map-push, take-map}
 use Rattle.std.proofs.shelf.Tests.{le-leb, lt-leb}
 use Rattle.fault.specs.declared.faults.Fault.{Fault}
 use Rattle.fault.specs.declared.faults.Fault.the-variants.{BodySize, NodeCount, LayerCount, LinkEnds, Unjoined}
 use Rattle.wiring.specs.declared.links.Link.{Link}
 use Rattle.wiring.specs.Lists.{or-else}
-use Rattle.wiring.specs.Topologies.{Topology}
+use Rattle.wiring.specs.Topologies.{Topology, channels}
 use Rattle.wiring.specs.Links.{ends-of, fresh, no-link, drawn, Ends-within}
 use Rattle.wiring.specs.Soundness.{among, fine-link, bad-link, unjoined, topology-fault, sound-answer}
 use Rattle.wiring.proofs.SoundnessLaws.{two-ends, links-fine, links-decide, sound-valid}
@@ -94,16 +94,16 @@ same-ends [] = refl
 same-ends (e ∷ es) = ap (λ (z : List (ℕ × ℕ)). e ∷ z) (same-ends es)
 
 module _ (ls held : List Link) (front : take (length ls) held ≡ map fresh (map ends-of ls)) where
-  -- a link that is taken over is fresh
-  pub held-fresh : (j : ℕ) → j < length ls → getD held j no-link ≡ fresh (getD (map ends-of ls) j (0, 0))
-  held-fresh j l =
-      sym (getD-take (length ls) held j no-link l)
-      ∙ ap (λ (z : List Link). getD z j no-link) front
-      ∙ getD-map fresh (map ends-of ls) j (0, 0) no-link (omega (arith, length-map ls ends-of))
-
-  -- and stands for what it was taken from
+  -- what is taken over stands for what it was taken from
   pub held-drawn : (n k : ℕ) → drawn n k (take (length ls) held) ≡ drawn n k ls
   held-drawn n k = ap (λ (es : List (ℕ × ℕ)). record { nodes = n; layers = k; links = es }) (ap (map ends-of) front ∙ same-ends (map ends-of ls))
+
+  -- with its loads at 1
+  pub held-fresh : take (length ls) held ≡ map fresh (map ends-of (take (length ls) held))
+  held-fresh = front ∙ ap (map fresh) (sym (ap (map ends-of) front ∙ same-ends (map ends-of ls)))
+
+  pub held-pairs : (n k : ℕ) → 2 * length ls ≡ channels (drawn n k (take (length ls) held))
+  held-pairs n k = ap (λ m. 2 * m) (sym (length-map ls ends-of)) ∙ ap channels (sym (held-drawn n k))
 
 pub answer-none : (w v : Topology) → w ≡ v → None ≡ topology-fault v → Ok w ≡ sound-answer v
 answer-none w v e f = ap Ok e ∙ rw (← f)

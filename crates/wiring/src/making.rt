@@ -2,6 +2,7 @@
 ghost use mathlib.Core.Path.{_≡_};
 ghost use mathlib.Core.List.{map};
 ghost use Prim.Native.Nat.{ℕ, _<_, _≤_};
+ghost use lib.Dec.{leb};
 ghost use lib.ListN.{length, take};
 ghost use Rattle.std.specs.Results.{Cases};
 ghost use Rattle.wiring.specs.Links.{ends-of, fresh, drawn};
@@ -48,6 +49,13 @@ fn renewed(links: &[Link]) -> [Link; 120]
     held
 }
 
+/// Whether there are at most 120 links.
+fn are_few(links: &[Link]) -> bool
+    ensures { λ r. ⌜ r ≡ leb (length (now (links .entry))) 120 ⌝ }
+{
+    links.len() <= 120
+}
+
 /// Whether a number lies between two others.
 fn is_among(low: u8, high: u8, x: u8) -> bool
     ensures { λ r. ⌜ r ≡ among low high x ⌝ }
@@ -59,7 +67,7 @@ fn is_among(low: u8, high: u8, x: u8) -> bool
 fn first_fault(nodes: u8, layers: u8, links: &[Link]) -> Option<Fault>
     ensures { λ r. ⌜ r ≡ topology-fault (drawn nodes layers (now (links .entry))) ⌝ }
 {
-    if links.len() > 120 {
+    if !are_few(links) {
         return Some(Fault::BodySize { line: 0 });
     }
     if !is_among(1, 64, nodes) {

@@ -1,10 +1,12 @@
 // Wirings, with what they keep to in the type.
 ghost use mathlib.Core.Path.{_≡_};
 ghost use mathlib.Core.Bool.{false};
-ghost use Prim.Native.Nat.{ℕ, _<_, _≤_};
-ghost use lib.ListN.{length, getD, take};
+ghost use Prim.Native.Nat.{_*_, _≤_};
+ghost use lib.ListN.{length, take};
+ghost use mathlib.Core.List.{map};
 ghost use Rattle.std.specs.Options.{isSome};
-ghost use Rattle.wiring.specs.Links.{drawn, no-link};
+ghost use Rattle.wiring.specs.Links.{drawn, ends-of, fresh};
+ghost use Rattle.wiring.specs.Topologies.{channels};
 ghost use Rattle.wiring.specs.Soundness.{topology-fault};
 use crate::links::Link;
 
@@ -18,7 +20,7 @@ pub struct Wiring {
     ghost few: { nodes ≤ 64 },
     ghost room: { count ≤ 120 },
     ghost held: { length links ≡ 120 },
-    ghost forth: { (j : ℕ) → j < count → getD links j no-link .forth ≡ 1 },
-    ghost back: { (j : ℕ) → j < count → getD links j no-link .back ≡ 1 },
+    ghost pairs: { 2 * count ≡ channels (drawn nodes layers (take count links)) },
+    ghost begun: { take count links ≡ map fresh (map ends-of (take count links)) },
     ghost sound: { isSome (topology-fault (drawn nodes layers (take count links))) ≡ false },
 }

@@ -1,12 +1,11 @@
 use native.Mathlib.Omega.{arith}
 use mathlib.Core.Path.{ap, sym, subst, _∙_}
 use Rattle.std.specs.declared.option.Option.the-variants.{Some, None}
-use Rattle.wiring.specs.declared.links.Link.{Link}
 use Rattle.wiring.specs.Links.{drawn}
 use Rattle.wiring.specs.Topologies.{Topology, Valid}
 use Rattle.wiring.specs.Soundness.{topology-fault}
 use Rattle.wiring.proofs.SoundnessLaws.{sound-valid, told-unjoined}
-use Rattle.wiring.proofs.MakingLaws.{held-fresh, held-drawn, answer-none, answer-some, few-of, quiet}
+use Rattle.wiring.proofs.MakingLaws.{held-fresh, held-pairs, held-drawn, answer-none, answer-some, few-of, quiet}
 use Rattle.wiring.proofs.wirings.Wiring.new.Needs as need
 
 pub returns-in-Some : need.returns-in-Some
@@ -38,8 +37,8 @@ ghost-result c =
         (
           c .renewed-links .ensures .len,
           (
-            (λ j l. ap (λ (x : Link). x .forth) (held-fresh ls held front j l)),
-            ((λ j l. ap (λ (x : Link). x .back) (held-fresh ls held front j l)), (quiet _ (none ∙ ap topology-fault (sym (held-drawn ls held front n k))), tt)),
+            held-pairs ls held front n k,
+            (held-fresh ls held front, (quiet _ (none ∙ ap topology-fault (sym (held-drawn ls held front n k))), tt)),
           ),
         ),
       ),
