@@ -27,7 +27,7 @@ use Rattle.wiring.proofs.OwnedLaws.{inward-partners, own-starts, own-ascends, 
 
 -- ---- what is kept of a range
 
-range-split : (i m n : ℕ) → range i (m + n) ≡ range i m ++ range (i + m) n
+pub range-split : (i m n : ℕ) → range i (m + n) ≡ range i m ++ range (i + m) n
 range-split i zero n = let e : 0 + n ≡ n = omega arith in let f : i + 0 ≡ i = omega arith in rw (e, f)
 range-split i (suc m) n =
     let e : suc m + n ≡ suc (m + n) = omega arith in

@@ -31,6 +31,11 @@ abbrev pub unless : {F X : Type 0} → Option F → Result X F → Result X F
 unless (Some f) a = Err f
 unless None a = a
 
+-- an answer goes on where there is a value
+abbrev pub after : {F X Y : Type 0} → Result X F → (X → Result Y F) → Result Y F
+after (Err f) k = Err f
+after (Ok x) k = k x
+
 -- a test comes before what else is found
 abbrev pub when-not : {F : Type 0} → Bool → F → Option F → Option F
 when-not true f o = o

@@ -1,0 +1,9 @@
+pub mod SearchedLaws
+pub mod CycleLaws
+pub mod CheckLaws
+pub mod RouteLaws
+pub mod PacketLaws
+pub mod FirstLaws
+pub mod NotingLaws
+pub mod SweepLaws
+pub mod VerdictLaws

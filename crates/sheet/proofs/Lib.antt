@@ -1,0 +1,5 @@
+pub mod LineLaws
+pub mod ContentsLaws
+pub mod PlanLaws
+pub mod WriteLaws
+pub mod WiringLaws
