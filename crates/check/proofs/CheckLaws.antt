@@ -15,6 +15,7 @@ use Rattle.fault.specs.declared.faults.Fault.{Fault}
 use Rattle.fault.specs.declared.faults.Fault.the-variants.{StartsElsewhere, LayerTooHigh, LayerDiffers, Cycle as CycleFault}
 use Rattle.wiring.specs.Lists.{range, first-some, fold, or-else}
 use Rattle.wiring.proofs.SoundnessLaws.{neither}
+use Rattle.wiring.proofs.TopologyLaws.{inside-of, into-inside}
 use Rattle.wiring.specs.Topologies.{Topology, Valid, channels, partner, from, into, starts, all-nodes}
 use Rattle.check.specs.Cycles.{Deps, acyclic}
 use Rattle.wiring.specs.declared.table.Cell.{Cell}
@@ -27,11 +28,8 @@ use Rattle.check.proofs.SearchedLaws.{some≢none, fold-keeps, fold-cases, fol
 
 -- Ends of channels.
 
-pub partner-within : (w : Topology) (c : ℕ) → c < channels w → partner c < channels w
-partner-within w c h = grind (arith, tells)
-
 pub into-within : (w : Topology) → Valid w → (c : ℕ) → c < channels w → into w c < w .nodes
-into-within w v c h = v .ends (partner c) (partner-within w c h) .0
+into-within w v c h = into-inside w (inside-of v) c h
 
 -- also of a number that is no channel of the wiring
 pub from-within : (w : Topology) → Valid w → (c : ℕ) → from w c < w .nodes

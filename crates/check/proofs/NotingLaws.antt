@@ -79,7 +79,7 @@ noted-push w xs D a b l m h N = record { same = same; follows = follows }
     follows : (c e : ℕ) → Has ((a, b) ∷ D) c e → Follows w c e
     follows c e p = ⊎-elim (λ (i : (a ≡ c) × (b ≡ e)). subst (λ x. Follows w x e) (i .0) (subst (λ y. Follows w a y) (i .1) h)) (N .follows c e) (has-cases (a, b) D c e p)
 
-all-false : (k i : ℕ) → getD (replicate k false) i false ≡ false
+pub all-false : (k i : ℕ) → getD (replicate k false) i false ≡ false
 all-false zero i = refl
 all-false (suc k) zero = refl
 all-false (suc k) (suc i) = all-false k i

@@ -8,16 +8,17 @@ use mathlib.Core.List.{List, [], _∷_}
 use mathlib.Core.Bool.{Bool, true, false, not, cond}
 use borrow.Author.Count.{below-more}
 use lib.ListN.{length, getD, set, replicate}
-use Rattle.std.specs.shelf.Lists.{All, Has as Among, countBy}
+use Rattle.std.specs.shelf.Lists.{countBy}
 use Rattle.std.proofs.shelf.Sums.{sumBy-set}
 use Rattle.std.proofs.shelf.Elements.{all-getD}
-use Rattle.std.proofs.shelf.Lists.{getD-set-same, getD-set-other, length-set}
+use Rattle.std.proofs.shelf.Lists.{getD-set-same, getD-set-other}
 use Rattle.std.proofs.shelf.Tests.{cases-eq, false≢true, true≢false}
 use Rattle.wiring.specs.Topologies.{Topology, channels, from, into}
 use Rattle.wiring.specs.Owned.{own, Owns}
 use Rattle.check.specs.Cycles.{Deps, has, acyclic, Linked}
 use Rattle.check.specs.Marks.{mark, is-gone, Noted, Held, Held-among, Free-among, Stuck, Left, Grounded, Swept}
 use Rattle.check.proofs.CycleLaws.{Has, acyclic-if-no-cycle, depth, depth-falls}
+use Rattle.check.proofs.NotingLaws.{all-false}
 
 -- ---- by own channels
 
@@ -120,11 +121,6 @@ some-left w xs gone D m N s c h p = go (acyclic D) refl
     go : (b : Bool) → acyclic D ≡ b → b ≡ false
     go true q = absurd (descent w xs gone D m N s q (suc (depth D c)) c h p (omega arith))
     go false q = refl
-
-all-false : (k i : ℕ) → getD (replicate k false) i false ≡ false
-all-false zero i = refl
-all-false (suc k) zero = refl
-all-false (suc k) (suc i) = all-false k i
 
 pub none-gone : (k : ℕ) (D : Deps) → Grounded D (replicate k false)
 none-gone k D c q = absurd (false≢true (sym (all-false k c) ∙ q))

@@ -9,10 +9,10 @@ use Rattle.std.specs.declared.result.Result.{Result}
 use Rattle.std.specs.declared.result.Result.the-variants.{Ok, Err}
 use Rattle.fault.specs.declared.faults.Fault.{Fault}
 use Rattle.fault.specs.declared.faults.Fault.the-variants.{NodeCountDiffers}
-use Rattle.wiring.specs.Lists.{after}
+use Rattle.wiring.specs.Lists.{after, only-if}
 use Rattle.wiring.specs.Tables.{Table}
 use Rattle.wiring.specs.Topologies.{Topology, Valid}
-use Rattle.sheet.specs.Plans.{only-if, read-plan, cells-in}
+use Rattle.sheet.specs.Plans.{read-plan, cells-in}
 use Rattle.sheet.specs.Wirings.{read-wiring}
 use Rattle.check.specs.Rules.{Passes, verdict}
 use Rattle.check.specs.Routes.{All-lead}

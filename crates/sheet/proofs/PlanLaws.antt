@@ -15,13 +15,13 @@ use Rattle.std.proofs.shelf.Lists.{append-nil, length-append, length-drop, getD
 use Rattle.std.proofs.shelf.Tests.{eqb-true, and-from, le-leb, lt-ltb, eq-eqb}
 use Rattle.fault.specs.declared.faults.Fault.{Fault}
 use Rattle.fault.specs.declared.faults.Fault.the-variants.{Contents, BodyPlace, NodeCount, PlanSize}
-use Rattle.wiring.specs.Lists.{range, unless, when-not, or-else}
+use Rattle.wiring.specs.Lists.{range, unless, when-not, or-else, only-if}
 use Rattle.wiring.specs.Tables.{Table}
 use Rattle.wiring.specs.declared.table.Cell.{Cell}
 use Rattle.wiring.specs.declared.table.Cell.the-variants.{Empty, Hop}
 use Rattle.sheet.specs.Lines.{byte, line, body}
 use Rattle.sheet.specs.Contents.{sheet-fault, plan-letters}
-use Rattle.sheet.specs.Plans.{Plan, only-if, whole-plan, read-plan, cell-of, cells-in}
+use Rattle.sheet.specs.Plans.{Plan, whole-plan, read-plan, cell-of, cells-in}
 use Rattle.sheet.specs.Written.{cell-bytes, row-bytes, table-bytes, plan-head, plan-sheet, need, Writable, Gives}
 use Rattle.sheet.proofs.ContentsLaws.{fine, length-body}
 

@@ -8,7 +8,7 @@ use Rattle.std.specs.declared.result.Result.{Result}
 use Rattle.std.specs.declared.result.Result.the-variants.{Ok, Err}
 use Rattle.fault.specs.declared.faults.Fault.{Fault}
 use Rattle.fault.specs.declared.faults.Fault.the-variants.{NodeCount, PlanSize}
-use Rattle.wiring.specs.Lists.{unless}
+use Rattle.wiring.specs.Lists.{unless, only-if}
 use Rattle.wiring.specs.Soundness.{among}
 use Rattle.wiring.specs.Tables.{Table}
 use Rattle.wiring.specs.declared.table.Cell.{Cell}
@@ -28,10 +28,6 @@ plan-of p = record { nodes = p .nodes; cells = p .cells .now }
 abbrev pub plan-seen : Result PlanSheet Fault → Result Plan Fault
 plan-seen (Ok p) = Ok (plan-of p)
 plan-seen (Err f) = Err f
-
--- a test comes before the answer
-abbrev pub only-if : {X : Type 0} → Bool → Fault → Result X Fault → Result X Fault
-only-if b f a = cond b a (Err f)
 
 abbrev pub whole-plan : Plan → Result Plan Fault
 whole-plan p = only-if (among 1 64 (p .nodes)) NodeCount (only-if (eqb (length (p .cells)) (2 * p .nodes * p .nodes)) PlanSize (Ok p))

@@ -10,12 +10,12 @@ use Rattle.std.specs.declared.result.Result.{Result}
 use Rattle.std.specs.declared.result.Result.the-variants.{Ok, Err}
 use Rattle.fault.specs.declared.faults.Fault.{Fault}
 use Rattle.fault.specs.declared.faults.Fault.the-variants.{NodeCount, ShortMemory}
-use Rattle.wiring.specs.Lists.{range}
+use Rattle.wiring.specs.Lists.{range, only-if}
 use Rattle.wiring.specs.Soundness.{among}
 use Rattle.wiring.specs.Tables.{Table}
 use Rattle.wiring.specs.declared.table.Cell.{Cell}
 use Rattle.wiring.specs.declared.table.Cell.the-variants.{Empty, Hop}
-use Rattle.sheet.specs.Plans.{Plan, only-if, read-plan, cells-in}
+use Rattle.sheet.specs.Plans.{Plan, read-plan, cells-in}
 
 abbrev pub cell-bytes : Cell → List ℕ
 cell-bytes Empty = 255 ∷ 255 ∷ []

@@ -1,9 +1,11 @@
 // One small job from beginning to end: a wiring sheet is read, a plan made by hand is written and read back, damaged sheets are
-// refused, and plans are judged.
+// refused, plans are judged and written into banks of cards.
+mod banking;
 mod grid;
 mod judging;
 mod steps;
 
+use banking::fill_banks;
 use judging::judge;
 use std::error::AnyError;
 use steps::read_damaged;
@@ -15,5 +17,6 @@ fn main(rt: LibcRuntime) -> Result<(), AnyError> {
     write_grid(&rt)?;
     read_damaged(&rt)?;
     judge(&rt)?;
+    fill_banks(&rt)?;
     Ok(())
 }

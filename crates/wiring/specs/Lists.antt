@@ -1,7 +1,7 @@
 -- Small words on lists and on answers.
 use Prim.Native.Nat.{ℕ, zero, suc}
 use mathlib.Core.List.{List, [], _∷_}
-use mathlib.Core.Bool.{Bool, true, false}
+use mathlib.Core.Bool.{Bool, true, false, cond}
 use Rattle.std.specs.declared.option.Option.{Option}
 use Rattle.std.specs.declared.option.Option.the-variants.{Some, None}
 use Rattle.std.specs.declared.result.Result.{Result}
@@ -30,6 +30,10 @@ first-some f (x ∷ xs) = elim (f x) [ Some y ↦ Some y | None ↦ first-some f
 abbrev pub unless : {F X : Type 0} → Option F → Result X F → Result X F
 unless (Some f) a = Err f
 unless None a = a
+
+-- a test comes before the answer
+abbrev pub only-if : {F X : Type 0} → Bool → F → Result X F → Result X F
+only-if b f a = cond b a (Err f)
 
 -- an answer goes on where there is a value
 abbrev pub after : {F X Y : Type 0} → Result X F → (X → Result Y F) → Result Y F

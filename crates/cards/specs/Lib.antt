@@ -1,0 +1,3 @@
+pub mod Decks
+pub mod Views
+pub mod Makings
