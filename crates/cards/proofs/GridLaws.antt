@@ -47,8 +47,7 @@ pub gates-shut : (k : ℕ) → _≡_ {A = ℕ → Bool} (λ n. getD (replicate k
 gates-shut k = fun-ext (λ n. same false k n)
 
 -- the view of cards as they are made
-pub made-is : (w : Topology) (nodes : ℕ) (held : ℕ → ℕ → Cell) → nodes ≡ w .nodes → held ≡ (λ n d. Empty) → cards-view nodes (replicate 64 false) (λ n c. starts w c n) held ≡ made-view w
-made-is w nodes held e f = ap₂ (λ (n : ℕ) (h : ℕ → ℕ → Cell). cards-view n (replicate 64 false) (λ n c. starts w c n) h) e f ∙ shut
-  where
-    shut : cards-view (w .nodes) (replicate 64 false) (λ n c. starts w c n) (λ n d. Empty) ≡ made-view w
-    shut = ap (λ (g : ℕ → Bool). record { seated = λ n. ltb n (w .nodes); own = λ n c. starts w c n; gate = g; cell = λ n d. Empty }) (gates-shut 64)
+pub made-is : (w : Topology) (nodes : ℕ) (owned : ℕ → ℕ → Bool) (held : ℕ → ℕ → Cell) → nodes ≡ w .nodes → owned ≡ (λ n c. starts w c n) → held ≡ (λ n d. Empty) → cards-view nodes (replicate 64 false) owned held ≡ made-view w
+made-is w nodes owned held e o f =
+    ap₂ (λ (n : ℕ) (h : ℕ → ℕ → Cell). cards-view n (replicate 64 false) owned h) e f
+    ∙ ap₂ (λ (u : ℕ → ℕ → Bool) (g : ℕ → Bool). record { seated = λ n. ltb n (w .nodes); own = u; gate = g; cell = λ n d. Empty }) o (gates-shut 64)

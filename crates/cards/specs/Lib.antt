@@ -1,3 +1,4 @@
 pub mod Decks
 pub mod Views
 pub mod Makings
+pub mod Porting

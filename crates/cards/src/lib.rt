@@ -4,6 +4,8 @@ mod channels;
 mod decks;
 mod flat;
 mod making;
+mod numbered;
+mod ported;
 mod stores;
 
 pub use cards::CardsBank;
@@ -12,4 +14,8 @@ pub use decks::Cards;
 pub use flat::ChannelsStore;
 pub use making::MakeError;
 pub use making::flat_bank;
+pub use making::port_cards;
+pub use numbered::Numbered;
+pub use numbered::PortCell;
+pub use ported::NumberedStore;
 pub use stores::Store;

@@ -1,4 +1,7 @@
-// The worked sheets and plans.
+// The worked sheets and plans, and banks of different make.
+#[cfg(test)]
+mod banks;
+
 #[cfg(test)]
 mod tests {
     use check::check;

@@ -6,7 +6,10 @@ use cards::Cards;
 use cards::CardsBank;
 use cards::Channels;
 use cards::ChannelsStore;
+use cards::Numbered;
+use cards::NumberedStore;
 use cards::flat_bank;
+use cards::port_cards;
 use fault::Fault;
 use fault::FaultDisplay;
 use piles::Joined;
@@ -110,12 +113,19 @@ fn turned() -> [u8; 64] {
     map
 }
 
-/// Node 0 stands in one flat bank, nodes 1 and 2 behind a slot map in another.
+fn make_ports(heap: Global) -> Result<Cards<Numbered>, AnyError> {
+    match port_cards(heap, &LINE) {
+        Ok(bank) => Ok(bank),
+        Err(_) => Err("no port cards are made".into()),
+    }
+}
+
+/// Node 0 stands in port cards, nodes 1 and 2 behind a slot map in others.
 fn make_cabinet(
     heap: Global,
-) -> Result<Joined<Cards<Channels>, SlotMap<Cards<Channels>>>, AnyError> {
-    let first = make_flat(heap)?;
-    let below = make_flat(heap)?;
+) -> Result<Joined<Cards<Numbered>, SlotMap<Cards<Numbered>>>, AnyError> {
+    let first = make_ports(heap)?;
+    let below = make_ports(heap)?;
     let Ok(second) = SlotMap::new(turned(), below) else {
         return Err("the slot map is refused".into());
     };
@@ -146,7 +156,7 @@ pub fn fill_banks(rt: &LibcRuntime) -> Result<(), AnyError> {
     )?;
     show(
         rt,
-        "plan into a cabinet",
+        "plan into port cards behind a slot map in a cabinet",
         write_all(&mut cabinet, &Grid::line()),
     )?;
     let same = count_same(&flat, &cabinet);

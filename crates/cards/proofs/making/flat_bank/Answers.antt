@@ -10,4 +10,4 @@ returns c =
     let w = topology (c .in-Ok .wiring) in
     let read = c .in-Ok .ensures tt .answer in
     let exact = c .in-Ok-from-elem .ensures tt .exact in
-    (w, sym read, made-is w _ _ (c .nodes-nodes .ensures) (ap entry (exact (λ y e. e)) ∙ grid-none Empty 4096))
+    (w, sym read, made-is w _ _ _ (c .nodes-nodes .ensures) refl (ap entry (exact (λ y e. e)) ∙ grid-none Empty 4096))
