@@ -146,7 +146,7 @@ fn show_refusals<B: Bank>(rt: &impl Print, bank: &mut B) -> io::Result<()> {
 }
 
 /// Writes a plan into two banks of different make, and shows what they refuse.
-pub fn fill_banks(rt: &LibcRuntime) -> Result<(), AnyError> {
+pub(crate) fn fill_banks(rt: &LibcRuntime) -> Result<(), AnyError> {
     let mut flat = make_flat(rt.alloc())?;
     let mut cabinet = make_cabinet(rt.alloc())?;
     show(

@@ -16,7 +16,7 @@ pub struct Grid {
 }
 
 /// A cell of layer 0.
-pub fn hop(channel: u8) -> Cell
+pub(crate) fn hop(channel: u8) -> Cell
     ensures { λ r. ⌜ r ≡ Hop channel 0 ⌝ }
 {
     Cell::Hop { channel, layer: 0 }
@@ -24,7 +24,7 @@ pub fn hop(channel: u8) -> Cell
 
 impl Grid {
     /// A plan for three nodes in a line, all in layer 0.
-    pub fn line() -> Grid
+    pub(crate) fn line() -> Grid
         ensures { λ r. ⌜ r .cells ≡ Empty ∷ Hop 1 0 ∷ Hop 3 0 ∷ Hop 0 0 ∷ Empty ∷ Hop 3 0 ∷ Hop 0 0 ∷ Hop 2 0 ∷ Empty ∷ [] ⌝ }
     {
         Grid {
@@ -43,7 +43,7 @@ impl Grid {
     }
 
     /// Every route upward round a triangle, destinations 0 and 2 in layer 0.
-    pub fn round(layer: u8) -> Grid
+    pub(crate) fn round(layer: u8) -> Grid
         ensures { λ r. ⌜ r .cells ≡ Empty ∷ Hop 2 0 ∷ Hop 4 0 ∷ Hop 0 layer ∷ Empty ∷ Hop 4 layer ∷ Hop 0 0 ∷ Hop 2 0 ∷ Empty ∷ [] ⌝ }
     {
         let zero = Cell::Hop { channel: 0, layer };
@@ -64,7 +64,7 @@ impl Grid {
     }
 
     /// The same with another cell at a place, where there is such a place.
-    pub fn with(self, place: usize, cell: Cell) -> Grid
+    pub(crate) fn with(self, place: usize, cell: Cell) -> Grid
         ensures { λ r. ⌜ r .cells ≡ cond (ltb place 9) (set (self .cells) place cell) (self .cells) ⌝ }
     {
         let mut cells = self.cells;

@@ -160,7 +160,7 @@ fn judge_triangle(rt: &impl Print, wiring: &Wiring) -> io::Result<()> {
 }
 
 /// Judges plans for a line and for a triangle.
-pub fn judge(rt: &impl Print) -> Result<(), AnyError> {
+pub(crate) fn judge(rt: &impl Print) -> Result<(), AnyError> {
     let Ok(line) = read_wiring(&LINE) else {
         return Err("the wiring sheet of the line is refused".into());
     };

@@ -100,7 +100,7 @@ fn show_reading(rt: &impl Print, name: &str, sheet: &[u8]) -> io::Result<()> {
 }
 
 /// Reads the wiring sheet and prints what it says.
-pub fn read_line(rt: &impl Print) -> Result<(), AnyError> {
+pub(crate) fn read_line(rt: &impl Print) -> Result<(), AnyError> {
     println!(rt, "wiring sheet:")?;
     show_bytes(rt, &LINE)?;
     let Ok(wiring) = read_wiring(&LINE) else {
@@ -144,7 +144,7 @@ fn show_fault(rt: &impl Print, name: &str, fault: Fault) -> io::Result<()> {
 }
 
 /// Writes the sheet of a plan for the line, reads it back and prints its cells.
-pub fn write_grid(rt: &impl Print) -> Result<(), AnyError> {
+pub(crate) fn write_grid(rt: &impl Print) -> Result<(), AnyError> {
     let grid = Grid::line();
     let mut memory = [0u8; 32];
     if let Err(fault) = write_plan(3, &grid, &mut memory[0..29]) {
@@ -163,7 +163,7 @@ pub fn write_grid(rt: &impl Print) -> Result<(), AnyError> {
 }
 
 /// What three damaged wiring sheets get.
-pub fn read_damaged(rt: &impl Print) -> Result<(), AnyError> {
+pub(crate) fn read_damaged(rt: &impl Print) -> Result<(), AnyError> {
     show_reading(rt, "no bytes", &[])?;
     show_reading(rt, "last byte missing", &LINE[0..21])?;
     show_reading(rt, "node 2 not corded", &CUT_OFF)?;
