@@ -1,4 +1,6 @@
 // Banks of switch cards, by their meaning.
+#![tactic(auto)]
+
 mod banks;
 mod standing;
 

@@ -1,4 +1,6 @@
 // Banks of cards held in memory.
+#![tactic(auto)]
+
 mod cards;
 mod channels;
 mod decks;

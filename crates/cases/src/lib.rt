@@ -1,4 +1,6 @@
 // The worked sheets and plans, and banks of different make.
+#![tactic(auto)]
+
 #[cfg(test)]
 mod banks;
 

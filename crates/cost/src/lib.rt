@@ -1,4 +1,6 @@
 // What a route costs: the trait of the kinds of cost, and three kinds.
+#![tactic(auto)]
+
 mod counts;
 mod kinds;
 mod loads;

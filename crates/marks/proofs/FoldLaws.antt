@@ -1,7 +1,7 @@
 -- Tests, choices and folds: what holds on every way holds of the outcome.
 use Rattle.std.proofs.Common.{◌≡◌, ℕ, zero, suc, ◌+◌, ◌<◌, ◌≤◌, Bool, true, false, ◌⊎◌, List, [], ◌∷◌, Some, None, Option, sym, refl, ap, subst, inl, inr, arith}
 use Rattle.std.proofs.lemmas.Bool.{cases_eq}
-use Rattle.std.specs.List.{AllByRecursion as All}
+use Rattle.std.specs.List.{AllByRecursion}
 use Rattle.wiring.specs.Lists.{range, fold}
 use Rattle.plan_check.specs.Packets.{In, now', later}
 
@@ -13,7 +13,7 @@ pub on_option : {S X : Type 0} (P : S → Type 0) (o : Option X) (x : S) (k : X 
 on_option P None x k f g = f refl
 on_option P (Some y) x k f g = g y refl
 
-pub fold_keeps : {S X : Type 0} (P : S → Type 0) (Q : X → Type 0) (f : S → X → S) → ((s : S) (x : X) → Q x → P s → P (f s x)) → (xs : List X) → All Q xs → (s : S) → P s → P (fold f s xs)
+pub fold_keeps : {S X : Type 0} (P : S → Type 0) (Q : X → Type 0) (f : S → X → S) → ((s : S) (x : X) → Q x → P s → P (f s x)) → (xs : List X) → AllByRecursion Q xs → (s : S) → P s → P (fold f s xs)
 fold_keeps P Q f step [] q s p = p
 fold_keeps P Q f step (x ∷ xs) q s p = fold_keeps P Q f step xs q.1 (f s x) (step s x q.0 p)
 
@@ -29,7 +29,7 @@ step_gains P Q s r y x xs g (inr now') = inl g.here
 step_gains P Q s r y x xs g (inr (later i)) = inr i
 
 -- so after the fold Q holds at every number of the list, and where it held before
-pub fold_gains : {S : Type 0} (P : S → Type 0) (Q : ℕ → S → Type 0) (R : ℕ → Type 0) (f : S → ℕ → S) → ((s : S) (x : ℕ) → R x → P s → Gains P Q s (f s x) x) → (xs : List ℕ) → All R xs → (s : S) → P s → (y : ℕ) → Q y s ⊎ In y xs → Q y (fold f s xs)
+pub fold_gains : {S : Type 0} (P : S → Type 0) (Q : ℕ → S → Type 0) (R : ℕ → Type 0) (f : S → ℕ → S) → ((s : S) (x : ℕ) → R x → P s → Gains P Q s (f s x) x) → (xs : List ℕ) → AllByRecursion R xs → (s : S) → P s → (y : ℕ) → Q y s ⊎ In y xs → Q y (fold f s xs)
 fold_gains P Q R f step [] q s p y (inl h) = h
 fold_gains P Q R f step [] q s p y (inr h) = elim h [ ]
 fold_gains P Q R f step (x ∷ xs) q s p y h =
@@ -43,12 +43,12 @@ in_range i a (suc n) l h = elim (cases_eq i a) [ inl e ↦ subst (λ z. In i (z 
 pub below_in_range : (i n : ℕ) → i < n → In i (range 0 n)
 below_in_range i n h = in_range i 0 n (omega arith) (omega arith)
 
-pub all_at : (Q : ℕ → Type 0) (x : ℕ) (xs : List ℕ) → All Q xs → In x xs → Q x
+pub all_at : (Q : ℕ → Type 0) (x : ℕ) (xs : List ℕ) → AllByRecursion Q xs → In x xs → Q x
 all_at Q x [] q i = elim i [ ]
 all_at Q x (y ∷ xs) q now' = q.0
 all_at Q x (y ∷ xs) q (later i) = all_at Q x xs q.1 i
 
-pub all_from_in : (Q : ℕ → Type 0) (xs : List ℕ) → ((x : ℕ) → In x xs → Q x) → All Q xs
+pub all_from_in : (Q : ℕ → Type 0) (xs : List ℕ) → ((x : ℕ) → In x xs → Q x) → AllByRecursion Q xs
 all_from_in Q [] f = tt
 all_from_in Q (x ∷ xs) f = (f x now', all_from_in Q xs (λ y i. f y (later i)))
 

@@ -1,4 +1,6 @@
 // The marks of dependencies: which are used, which are blocked, and what a try of one more does.
+#![tactic(auto)]
+
 mod kinds;
 mod marking;
 mod searching;

@@ -1,4 +1,6 @@
 // Banks over banks.
+#![tactic(auto)]
+
 mod cabinets;
 mod joining;
 mod mapping;

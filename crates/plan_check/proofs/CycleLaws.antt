@@ -1,6 +1,6 @@
 -- Cycles of dependencies: `acyclic` is exact, ranks, and what one more dependency does.
 use Rattle.std.proofs.Common.{◌≡◌, ℕ, zero, suc, ◌-◌, ◌<◌, ◌≤◌, Bool, true, false, cond, ◌&&◌, ◌||◌, eqb, ◌⊎◌, List, [], ◌∷◌, ◌++◌, length, sym, refl, ap, ◌∙◌, subst, inl, inr, ⊎_elim, arith}
-use Rattle.std.specs.List.{AllByRecursion as All}
+use Rattle.std.specs.List.{AllByRecursion}
 use Rattle.std.proofs.lemmas.Bool.{or_cases, or_left, or_right, and_parts, and_from, eqb-true, eq-eqb, false≢true, true≢false, cases_eq}
 use Rattle.plan_check.specs.Cycles.{Linked, Cycle, Deps, has, leaves, inner, peel, none_left, acyclic}
 use Rattle.plan_check.specs.Routes.{Apart, Distinct}
@@ -208,11 +208,11 @@ leaves_without c x (p ∷ ps) ne l = go (eqb p.0 c) refl (leaves_without c x ps 
     go false q ih (inl k) = or_left _ (leaves x (without c ps)) k
     go false q ih (inr k) = or_right (eqb p.0 x) _ (ih k)
 
-all_without : (c : ℕ) (D : Deps) (xs : List ℕ) → Apart c xs → All (λ x. leaves x D ≡ true) xs → All (λ x. leaves x (without c D) ≡ true) xs
+all_without : (c : ℕ) (D : Deps) (xs : List ℕ) → Apart c xs → AllByRecursion (λ x. leaves x D ≡ true) xs → AllByRecursion (λ x. leaves x (without c D) ≡ true) xs
 all_without c D [] a l = tt
 all_without c D (x ∷ xs) a l = (leaves_without c x D a.0 l.0, all_without c D xs a.1 l.1)
 
-distinct_fit : (xs : List ℕ) (D : Deps) → Distinct xs → All (λ x. leaves x D ≡ true) xs → length xs ≤ length D
+distinct_fit : (xs : List ℕ) (D : Deps) → Distinct xs → AllByRecursion (λ x. leaves x D ≡ true) xs → length xs ≤ length D
 distinct_fit [] D d l = omega arith
 distinct_fit (x ∷ xs) D d l =
     let a = distinct_fit xs (without x D) d.1 (all_without x D xs d.0 l.1) in
@@ -231,7 +231,7 @@ module _ (D : Deps) (closed : (c e : ℕ) → Has D c e → leaves e D ≡ true)
   leaves_next : (c : ℕ) → leaves c D ≡ true → leaves (next D c) D ≡ true
   leaves_next c l = closed c (next D c) (has_next D c l)
 
-  all_trail : (k c : ℕ) → leaves c D ≡ true → All (λ x. leaves x D ≡ true) (trail D k c)
+  all_trail : (k c : ℕ) → leaves c D ≡ true → AllByRecursion (λ x. leaves x D ≡ true) (trail D k c)
   all_trail zero c l = tt
   all_trail (suc k) c l = (l, all_trail k (next D c) (leaves_next c l))
 

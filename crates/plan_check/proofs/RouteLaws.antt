@@ -1,6 +1,6 @@
 -- Routes arrive: where a plan passes, the cells lead from every node to every destination, and no route visits a node twice.
 use Rattle.std.proofs.Common.{◌≡◌, ℕ, zero, suc, ◌<◌, ◌≤◌, cond, eqb, List, [], ◌∷◌, sym, refl, ap, ◌∙◌, subst, ap₂, ⊎_elim, arith}
-use Rattle.std.specs.List.{AllByRecursion as All}
+use Rattle.std.specs.List.{AllByRecursion}
 use Rattle.std.proofs.ByRecursion.{All-weaker}
 use Rattle.std.proofs.lemmas.Bool.{eq-eqb, ne_eqb, cond-true, cond-false, cases_eq}
 use Rattle.wiring.specs.Topologies.{Topology, Valid, from, into}
@@ -36,7 +36,7 @@ far_there w t d n q = cond-true _ _ _ (eq-eqb n d q)
 far_short : (w : Topology) (t : Table) (d n : ℕ) → (n ≡ d → ⊥) → (a : Onward w t d n) → far w t d n ≡ suc (deep w t (layer_of t d) a.channel)
 far_short w t d n ne a = cond-false _ _ _ (ne_eqb n d ne) ∙ ap (λ x. suc (deep w t (layer_of t d) (channel_in x))) a.cell
 
-pub apart_from : (f : ℕ → ℕ) (n b : ℕ) (xs : List ℕ) → All (λ x. f x ≤ b) xs → b < f n → Apart n xs
+pub apart_from : (f : ℕ → ℕ) (n b : ℕ) (xs : List ℕ) → AllByRecursion (λ x. f x ≤ b) xs → b < f n → Apart n xs
 apart_from f n b [] a l = tt
 apart_from f n b (x ∷ xs) a l = (λ q. let r = ap f q in let s = a.0 in omega arith, apart_from f n b xs a.1 l)
 
@@ -59,7 +59,7 @@ module _ (w : Topology) (t : Table) (ok : Valid w) (p : Passes w t) (d : ℕ) (k
           omega arith
 
   abbrev Lead : ℕ → Type 0
-  Lead n = (cs : List ℕ) × Route w t d n cs × Distinct (visits w n cs) × All (λ x. far w t d x ≤ far w t d n) (visits w n cs)
+  Lead n = (cs : List ℕ) × Route w t d n cs × Distinct (visits w n cs) × AllByRecursion (λ x. far w t d x ≤ far w t d n) (visits w n cs)
 
   lead : (k n : ℕ) → n < w.nodes → far w t d n < k → Lead n
   lead zero n l h = absurd (omega arith)

@@ -1,4 +1,6 @@
 // The check of forwarding cells against a wiring: the first rule that they break, or that they pass; and what passing means.
+#![tactic(auto)]
+
 mod cycles;
 mod noting;
 mod promises;

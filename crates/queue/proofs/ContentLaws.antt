@@ -2,11 +2,10 @@
 use Rattle.std.proofs.Common.{◌≡◌, ℕ, ◌+◌, ◌-◌, ◌<◌, ◌≤◌, Bool, false, List, [], ◌∷◌, ◌++◌, length, get_or, take, drop, set, sym, ap, ◌∙◌, subst, ⊎_elim, arith}
 use Rattle.std.specs.List.Sorted.{IsPermutation}
 use Rattle.std.specs.Cmp.{IsStrictWeakOrder}
-use Rattle.std.specs.List.{swap_remove, AllByRecursion as All}
-use Rattle.std.proofs.Permutation.{taken-first}
+use Rattle.std.specs.List.{swap_remove, AllByRecursion}
 use Rattle.std.proofs.ByRecursion.{All-from_get_or}
 use Rattle.std.proofs.lemmas.List.{length-set, length-take-le, length-append, get_or-take, get_or-set_same, get_or-set_other, get_or_default, set-get_or, take_at, take_more_set, drop_at, drop-set-lt, same_lists}
-use Rattle.std.proofs.lemmas.List.Sorted.{IsPermutation-sym, IsPermutation-trans, IsPermutation-cons, IsPermutation-to_front, length_permutation}
+use Rattle.std.proofs.lemmas.List.Sorted.{IsPermutation-sym, IsPermutation-trans, IsPermutation-cons, IsPermutation-to_front, IsPermutation-swap_remove, length_permutation}
 use Rattle.std.proofs.lemmas.Bool.{cases_eq}
 use Rattle.queue.specs.Heaps.{Heaped}
 use Rattle.queue.proofs.SiftLaws.{same_below, from_one, top_first}
@@ -65,7 +64,7 @@ module _ {X : Type 0} (xs : List X) (n k : ℕ) (e : X) (within : n ≤ length x
       (from_one before (take n xs) n h)
 
   -- the top is the least
-  pub pop_least : (before : X → X → Bool) → IsStrictWeakOrder before → (d : X) → Heaped before (take n xs) 0 n → All (λ y. before y (get_or xs 0 d) ≡ false) (take n xs)
+  pub pop_least : (before : X → X → Bool) → IsStrictWeakOrder before → (d : X) → Heaped before (take n xs) 0 n → AllByRecursion (λ y. before y (get_or xs 0 d) ≡ false) (take n xs)
   pop_least before ranks d h = All-from_get_or (λ y. before y (get_or xs 0 d) ≡ false) (take n xs) d
       (λ i l.
       let below : i < n = omega (arith, length-take-le n xs within) in
@@ -101,7 +100,7 @@ module _ {X : Type 0} (xs : List X) (n k : ℕ) (e : X) (within : n ≤ length x
         let ys = take n xs in
         let long : length ys ≡ n = length-take-le n xs within in
         let first : x ≡ get_or ys 0 x = get_or_default xs 0 d x (omega arith) ∙ sym (get_or-take n xs 0 x (omega arith)) in
-        let taken : IsPermutation ys (x ∷ take k (set xs 0 (get_or xs (n - 1) e))) = subst (λ (l : List X). IsPermutation ys (x ∷ l)) (sym (popped_is x)) (taken-first ys x (omega arith) first) in
+        let taken : IsPermutation ys (x ∷ take k (set xs 0 (get_or xs (n - 1) e))) = subst (λ (l : List X). IsPermutation ys (x ∷ l)) (sym (popped_is x)) (IsPermutation-swap_remove ys 0 x (omega arith) first) in
         let moved : IsPermutation ys (x ∷ run) = IsPermutation-trans ys (x ∷ take k (set xs 0 (get_or xs (n - 1) e))) (x ∷ run) taken (IsPermutation-cons x (take k (set xs 0 (get_or xs (n - 1) e))) run s) in
         subst (λ (l : List X). IsPermutation (x ∷ l) ys) (sym (front run rest m (pop_long ∙ sym f))) (IsPermutation-sym ys (x ∷ run) moved)
 

@@ -1,7 +1,7 @@
 -- What waits, entry by entry: for the calls' users.
 use Rattle.std.proofs.Common.{◌≡◌, zero, suc, ◌+◌, ◌<◌, Bool, true, false, cond, ltb, ◌⊎◌, List, [], ◌∷◌, length, is_some, Some, None, Option, ◌∙◌, subst, inl, inr, arith}
 use Rattle.std.specs.List.Sorted.{IsPermutation}
-use Rattle.std.specs.List.{ContainsAt as Has}
+use Rattle.std.specs.List.{ContainsAt}
 use Rattle.std.proofs.ByRecursion.{all-has, has_get_or, has_append_right, has_shuffled}
 use Rattle.std.proofs.lemmas.List.{length-take-le}
 use Rattle.std.proofs.lemmas.List.Sorted.{IsPermutation-sym}
@@ -14,16 +14,16 @@ use Rattle.queue.proofs.OrderLaws.{not_sooner}
 
 -- e and the rest are what waits: after a push of e, or before e was popped
 module _ {X : Type 0} (e : X) (rest waits : List X) (s : IsPermutation (e ∷ rest) waits) where
-  pub one_waits : Has waits e
+  pub one_waits : ContainsAt waits e
   one_waits = has_shuffled (e ∷ rest) waits e s (has_get_or (e ∷ rest) 0 e (omega arith))
 
-  pub rest_waits : (y : X) → Has rest y → Has waits y
+  pub rest_waits : (y : X) → ContainsAt rest y → ContainsAt waits y
   rest_waits y h = has_shuffled (e ∷ rest) waits y s (has_append_right (e ∷ []) rest y h)
 
-  pub waits_cases : (y : X) → Has waits y → (e ≡ y) ⊎ Has rest y
+  pub waits_cases : (y : X) → ContainsAt waits y → (e ≡ y) ⊎ ContainsAt rest y
   waits_cases y h = by (has_shuffled waits (e ∷ rest) y (IsPermutation-sym (e ∷ rest) waits s) h)
     where
-      by : Has (e ∷ rest) y → (e ≡ y) ⊎ Has rest y
+      by : ContainsAt (e ∷ rest) y → (e ≡ y) ⊎ ContainsAt rest y
       by (zero, l, a) = inl (a e)
       by (suc k, l, a) = inr (k, omega arith, a)
 
@@ -44,5 +44,5 @@ module _ {K : Type 0} (atmost : K → K → Bool) where
   length_contents h o = length-take-le h.len h.entries.now o.within
 
   -- none that waits costs less than the least, and none of the same cost wins the tie
-  pub least_no_later : ((x y : K) → atmost x y ≡ false → atmost y x ≡ true) → (e : Entry K) (waits : List (Entry K)) → Least atmost e waits → (y : Entry K) → Has waits y → (atmost e.cost y.cost ≡ true) × (atmost y.cost e.cost ≡ true → tie y.key e.key ≡ false)
+  pub least_no_later : ((x y : K) → atmost x y ≡ false → atmost y x ≡ true) → (e : Entry K) (waits : List (Entry K)) → Least atmost e waits → (y : Entry K) → ContainsAt waits y → (atmost e.cost y.cost ≡ true) × (atmost y.cost e.cost ≡ true → tie y.key e.key ≡ false)
   least_no_later total e waits least y h = not_sooner atmost total y e (all-has (λ z. sooner atmost z e ≡ false) waits y least h)

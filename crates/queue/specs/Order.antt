@@ -1,6 +1,6 @@
 -- The order in which entries leave the queue.
 use Rattle.std.specs.Prelude.{◌≡◌, ℕ, Bool, true, false, cond, List, nat_lt}
-use Rattle.std.specs.List.{AllByRecursion as All}
+use Rattle.std.specs.List.{AllByRecursion}
 use Rattle.queue.specs.declared.entries.Entry.{Entry}
 
 -- which of two keys comes first where the costs are equal: the lower
@@ -14,4 +14,4 @@ module _ {K : Type 0} (atmost : K → K → Bool) where
 
   -- none of the entries comes sooner than e
   abbrev pub Least : Entry K → List (Entry K) → Type 0
-  Least e xs = All (λ y. sooner y e ≡ false) xs
+  Least e xs = AllByRecursion (λ y. sooner y e ≡ false) xs

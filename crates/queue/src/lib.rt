@@ -1,4 +1,6 @@
 // A queue of entries by cost, in memory lent to it.
+#![tactic(auto)]
+
 mod entries;
 mod heaps;
 mod ordering;

@@ -1,5 +1,7 @@
 // One small job from beginning to end: a wiring sheet is read, a plan made by hand is written and read back, damaged sheets are
 // refused, plans are judged and written into banks of cards.
+#![tactic(auto)]
+
 mod banking;
 mod grid;
 mod judging;

@@ -1,6 +1,6 @@
 -- The escape routes of a valid wiring.
 use Rattle.std.proofs.Common.{◌≡◌, ℕ, suc, ◌<◌, true, List, length, get_or, set, Some, None, Option, sym, refl, ap, ◌∙◌, subst, arith}
-use Rattle.std.specs.List.{AllByRecursion as All}
+use Rattle.std.specs.List.{AllByRecursion}
 use Rattle.std.proofs.ByRecursion.{All-get_or}
 use Rattle.std.proofs.lemmas.List.{length-set}
 use Rattle.wiring.specs.Topologies.{Topology, channels, partner, from, into, Valid}
@@ -59,13 +59,13 @@ module _ (w : Topology) (root : ℕ) (v : Valid w) (r : root < w.nodes) where
     pub next_rises : (n c e : ℕ) → Next w (escape_routes w (up_channels w root) d) n c e → rank (level w root) w c < rank (level w root) w e
     next_rises n c e p = rank_rises of_ups v.few_nodes d n c e h p.0 p.1
 
-  pub escape_deps_rise : (ds : List ℕ) → All (λ d. d < w.nodes) ds → (c e : ℕ) → has c e (escape_deps w (up_channels w root) ds) ≡ true
+  pub escape_deps_rise : (ds : List ℕ) → AllByRecursion (λ d. d < w.nodes) ds → (c e : ℕ) → has c e (escape_deps w (up_channels w root) ds) ≡ true
       → rank (level w root) w c < rank (level w root) w e
   escape_deps_rise ds a c e h =
       let p = escape_deps_only w (up_channels w root) ds c e h in
       next_rises (get_or ds p.0 0) (All-get_or (λ d. d < w.nodes) ds p.0 0 p.1 a) p.2 c e p.4
 
-  pub escape_deps_no_cycle : (ds : List ℕ) → All (λ d. d < w.nodes) ds → Cycle (λ c e. has c e (escape_deps w (up_channels w root) ds) ≡ true) → ⊥
+  pub escape_deps_no_cycle : (ds : List ℕ) → AllByRecursion (λ d. d < w.nodes) ds → Cycle (λ c e. has c e (escape_deps w (up_channels w root) ds) ≡ true) → ⊥
   escape_deps_no_cycle ds a = no_cycle_by_rank (λ c e. has c e (escape_deps w (up_channels w root) ds) ≡ true) (rank (level w root) w) (escape_deps_rise ds a)
 
 -- ---- in room for 64, below any root

@@ -1,6 +1,6 @@
 -- Laws of routes that a list of channels, one for each node, leads along.
 use Rattle.std.proofs.Common.{◌≡◌, ℕ, zero, suc, ◌<◌, ◌≤◌, ◌⊎◌, List, [], ◌∷◌, get_or, Some, None, Option, sym, refl, ap, ◌∙◌, subst, inl, inr, arith}
-use Rattle.std.specs.List.{AllByRecursion as All}
+use Rattle.std.specs.List.{AllByRecursion}
 use Rattle.std.proofs.ByRecursion.{All-weaker}
 use Rattle.std.proofs.lemmas.Bool.{cases_eq}
 use Rattle.wiring.specs.Topologies.{Topology, from, into}
@@ -25,12 +25,12 @@ led_same e = same_from e refl
 -- where the measure falls along every channel, the channels lead to d and no node is visited twice
 pub leads_by : (w : Topology) (vs : List (Option ℕ)) (d : ℕ) (M : ℕ → ℕ)
     → ((n : ℕ) → n < w.nodes → (n ≡ d → ⊥) → (c : ℕ) × (get_or vs n None ≡ Some c) × (from w c ≡ n) × (into w c < w.nodes) × (M (into w c) < M n))
-    → (k n : ℕ) → M n < k → n < w.nodes → (cs : List ℕ) × Led w vs d n cs × Distinct (visits w n cs) × All (λ x. M x ≤ M n) (visits w n cs)
+    → (k n : ℕ) → M n < k → n < w.nodes → (cs : List ℕ) × Led w vs d n cs × Distinct (visits w n cs) × AllByRecursion (λ x. M x ≤ M n) (visits w n cs)
 leads_by w vs d M each zero n l h = absurd (omega arith)
 leads_by w vs d M each (suc k) n l h = at (cases_eq n d) (λ m a b. leads_by w vs d M each k m a b)
   where
-    at : (n ≡ d) ⊎ (n ≡ d → ⊥) → ((m : ℕ) → M m < k → m < w.nodes → (cs : List ℕ) × Led w vs d m cs × Distinct (visits w m cs) × All (λ x. M x ≤ M m) (visits w m cs))
-        → (cs : List ℕ) × Led w vs d n cs × Distinct (visits w n cs) × All (λ x. M x ≤ M n) (visits w n cs)
+    at : (n ≡ d) ⊎ (n ≡ d → ⊥) → ((m : ℕ) → M m < k → m < w.nodes → (cs : List ℕ) × Led w vs d m cs × Distinct (visits w m cs) × AllByRecursion (λ x. M x ≤ M m) (visits w m cs))
+        → (cs : List ℕ) × Led w vs d n cs × Distinct (visits w n cs) × AllByRecursion (λ x. M x ≤ M n) (visits w n cs)
     at (inl q) rest = ([], subst (λ x. Led w vs d x []) (sym q) there, (tt, tt), (omega arith, tt))
     at (inr q) rest =
         let p = each n h q in

@@ -1,6 +1,6 @@
 -- Escape routes go up and then down: a rank rises along each, so they arrive and visit no node twice.
 use Rattle.std.proofs.Common.{◌≡◌, ℕ, suc, ◌+◌, ◌-◌, ◌<◌, ◌≤◌, cond, ltb, ◌⊎◌, List, [], ◌∷◌, get_or, Some, None, Option, sym, refl, ap, ◌∙◌, subst, inl, inr, arith}
-use Rattle.std.specs.List.{AllByRecursion as All}
+use Rattle.std.specs.List.{AllByRecursion}
 use Rattle.std.proofs.lemmas.Bool.{cond-true, cond-false, lt-ltb, le-ltb}
 use Rattle.wiring.specs.Topologies.{Topology, partner, from, into}
 use Rattle.wiring.proofs.TopologyLaws.{none_some, partner_partner, into_partner}
@@ -101,12 +101,12 @@ module _ {w : Topology} {root : ℕ} {us : List (Option ℕ)} {lev : ℕ → ℕ
           let k = tree_kind t d n p.0 h p.1 in
           (p.0, p.1, kind_leaves t k, kind_reaches t k, subst (λ o. M (into w p.0) < left_of o) (sym p.1) (falls n p.0 p.1 (get_or vs (into w p.0) None) refl))
 
-  downs : (d : ℕ) → d < w.nodes → {n : ℕ} {cs : List ℕ} → Led w (escape_routes w us d) d n cs → (n ≡ d) ⊎ ((x : ℕ) × Over w us n x d) → All (Down w us) cs
+  downs : (d : ℕ) → d < w.nodes → {n : ℕ} {cs : List ℕ} → Led w (escape_routes w us d) d n cs → (n ≡ d) ⊎ ((x : ℕ) × Over w us n x d) → AllByRecursion (Down w us) cs
   downs d h there q = tt
   downs d h (onward {n} {c} {cs} e f r) (inl q) = absurd (none_some (ap (λ a. get_or (escape_routes w us d) a None) q ∙ tree_none t d h) e)
   downs d h (onward {n} {c} {cs} e f r) (inr p) = at (tree_kind t d n c h e) (downs d h r)
     where
-      at : Kind w us d n c → ((into w c ≡ d) ⊎ ((x : ℕ) × Over w us (into w c) x d) → All (Down w us) cs) → All (Down w us) (c ∷ cs)
+      at : Kind w us d n c → ((into w c ≡ d) ⊎ ((x : ℕ) × Over w us (into w c) x d) → AllByRecursion (Down w us) cs) → AllByRecursion (Down w us) (c ∷ cs)
       at (rising g off) rest = absurd (off p.0 p.1)
       at (falling {x} o s) rest = (ap (λ a. get_or us a None) same ∙ over_up t o ∙ ap Some (sym (partner_partner x) ∙ ap partner (sym s)), rest (next (over_child t o)))
         where

@@ -1,6 +1,6 @@
 -- Escape routes: along up channels, and back down along their partners.
 use Rattle.std.specs.Prelude.{◌≡◌, ℕ, zero, suc, ◌<◌, List, [], ◌∷◌, ◌++◌, length, Some, None, Option, slice_index_or, slice_set}
-use Rattle.std.specs.List.{AllByRecursion as All}
+use Rattle.std.specs.List.{AllByRecursion}
 use Rattle.wiring.specs.Topologies.{Topology, channels, partner, from, into}
 use Rattle.wiring.specs.Levels.{levels}
 use Rattle.plan_check.specs.Routes.{visits, Distinct}
@@ -32,8 +32,8 @@ pub record UpThenDown (w : Topology) (us : List (Option ℕ)) (cs : List ℕ) : 
   pub up : List ℕ
   pub down : List ℕ
   pub parts : cs ≡ up ++ down
-  pub ups_first : All (λ c. slice_index_or us (from w c) None ≡ Some c) up
-  pub downs_last : All (λ c. slice_index_or us (into w c) None ≡ Some (partner c)) down
+  pub ups_first : AllByRecursion (λ c. slice_index_or us (from w c) None ≡ Some c) up
+  pub downs_last : AllByRecursion (λ c. slice_index_or us (into w c) None ≡ Some (partner c)) down
 
 -- what a route to d must be
 pub record Escapes (w : Topology) (us : List (Option ℕ)) (n : ℕ) (cs : List ℕ) : Type 0 where

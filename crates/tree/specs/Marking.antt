@@ -1,6 +1,6 @@
 -- The marks of escape routes.
 use Rattle.std.specs.Prelude.{◌≡◌, ℕ, ◌<◌, List, Option}
-use Rattle.std.specs.List.{AllByRecursion as All}
+use Rattle.std.specs.List.{AllByRecursion}
 use Rattle.wiring.specs.Topologies.{Topology}
 use Rattle.plan_check.specs.Cycles.{Cycle, Deps}
 use Rattle.marks.specs.declared.kinds.Mark.TheVariants.{Used}
@@ -17,4 +17,4 @@ MarkedExactly w us ds was v = was ≡ no_marks → (c e : ℕ) → (v c e ≡ Us
 
 -- and, where the root and the destinations are nodes, those used have no cycle
 abbrev pub MarkedFree : Topology → ℕ → List ℕ → View → View → Type 0
-MarkedFree w root ds was v = was ≡ no_marks → root < w.nodes → All (λ d. d < w.nodes) ds → Cycle (λ c e. v c e ≡ Used) → ⊥
+MarkedFree w root ds was v = was ≡ no_marks → root < w.nodes → AllByRecursion (λ d. d < w.nodes) ds → Cycle (λ c e. v c e ≡ Used) → ⊥

@@ -1,5 +1,7 @@
 // Runs many sheets, one a line in hexadecimal behind its kind, and prints what each gets: `accepted`,
 // `passes`, or what the display shows.
+#![tactic(auto)]
+
 ghost use Rattle.std.specs.Prelude.{◌<◌, IfSome};
 
 use anyhow::anyhow;

@@ -1,6 +1,6 @@
 -- The own channels of all nodes, one node behind the other.
 use Rattle.std.proofs.Common.{◌≡◌, ℕ, zero, suc, ◌+◌, ◌-◌, ◌*◌, ◌<◌, ◌≤◌, Bool, true, false, cond, eqb, ltb, List, [], ◌∷◌, ◌++◌, map, length, get_or, take, drop, set, filter, sym, refl, ap, ◌∙◌, subst, ap₂, ⊎_elim, add-one, arith}
-use Rattle.std.specs.List.{between, ContainsAt as Has, AllByRecursion as All}
+use Rattle.std.specs.List.{between, ContainsAt, AllByRecursion}
 use Rattle.std.proofs.lemmas.List.{append-nil, append_assoc, length-append, take_more_set, take-take, take_at, drop_at}
 use Rattle.std.proofs.lemmas.Slice.{between_is}
 use Rattle.std.proofs.lemmas.List.Elements.{filter-append}
@@ -47,11 +47,11 @@ module _ (p : ℕ → Bool) where
       let b = ap length (kept_hit c e) ∙ length-append (kept c) (c ∷ []) in
       omega arith
 
-  kept_has : (c n : ℕ) → c < n → p c ≡ true → Has (kept n) c
+  kept_has : (c n : ℕ) → c < n → p c ≡ true → ContainsAt (kept n) c
   kept_has c n l e =
       let q : c + 1 + (n - (c + 1)) ≡ n = omega arith in
-      subst (λ (xs : List ℕ). Has xs c) (sym (kept_split (c + 1) (n - (c + 1))) ∙ ap kept q)
-      (has_append_left (kept (c + 1)) _ c (subst (λ (xs : List ℕ). Has xs c) (sym (kept_hit c e)) (has_push (kept c) c)))
+      subst (λ (xs : List ℕ). ContainsAt xs c) (sym (kept_split (c + 1) (n - (c + 1))) ∙ ap kept q)
+      (has_append_left (kept (c + 1)) _ c (subst (λ (xs : List ℕ). ContainsAt xs c) (sym (kept_hit c e)) (has_push (kept c) c)))
 
 -- ---- one node
 

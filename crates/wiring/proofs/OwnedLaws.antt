@@ -1,6 +1,6 @@
 -- The channels into a node are the partners of its own channels, in the same order.
 use Rattle.std.proofs.Common.{◌≡◌, ℕ, zero, suc, ◌+◌, ◌*◌, ◌<◌, ◌≤◌, Bool, true, false, cond, not, ◌&&◌, eqb, List, [], ◌∷◌, map, length, get_or, set, filter, sym, refl, ap, ◌∙◌, subst, ap₂, arith}
-use Rattle.std.specs.List.{AllByRecursion as All}
+use Rattle.std.specs.List.{AllByRecursion}
 use Rattle.std.proofs.lemmas.Bool.{eqb-true, eqb-false, and_parts, cond_both}
 use Rattle.std.proofs.lemmas.Bool.Decides.{nat_tests}
 use Rattle.wiring.specs.Lists.{range, fold}
@@ -58,11 +58,11 @@ module _ (w : Topology) (ok : Valid w) (n : ℕ) where
   fold_inward {S} f idle s = fold_kept (λ c. eqb (into w c) n) f (λ s c e. idle s c (eqb-false _ _ e)) (all_channels w) s ∙ ap (fold f s) inward_partners
 
 -- what stands in the two lists
-both_hold : {X : Type 0} (P Q : X → Type 0) (xs : List X) → All P xs → All Q xs → All (λ x. P x × Q x) xs
+both_hold : {X : Type 0} (P Q : X → Type 0) (xs : List X) → AllByRecursion P xs → AllByRecursion Q xs → AllByRecursion (λ x. P x × Q x) xs
 both_hold P Q [] p q = tt
 both_hold P Q (x ∷ xs) p q = ((p.0, q.0), both_hold P Q xs p.1 q.1)
 
-pub own_starts : (w : Topology) (n : ℕ) → All (λ c. (c < channels w) × (from w c ≡ n)) (own w n)
+pub own_starts : (w : Topology) (n : ℕ) → AllByRecursion (λ c. (c < channels w) × (from w c ≡ n)) (own w n)
 own_starts w n = both_hold (λ c. c < channels w) (λ c. from w c ≡ n) (own w n) (all_kept_by (λ c. eqb (from w c) n) (λ c. c < channels w) (all_channels w) (range_below (channels w)))
     (All-weaker (λ c. eqb (from w c) n ≡ true) (λ c. from w c ≡ n) (λ c e. eqb-true _ _ e) (own w n) (kept_by_passes (λ c. eqb (from w c) n) (all_channels w)))
 

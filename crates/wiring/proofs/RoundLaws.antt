@@ -55,10 +55,10 @@ fold_all f s i n l = ap (fold f s) (range_all i n l)
 
 -- the first that passes, from i on
 pub first_here : (p : ℕ → Bool) (i n : ℕ) → i < n → p i ≡ true → first_that p (range i (n - i)) ≡ Some i
-first_here p i n l e = ap (first_that p) (range_more i n l) ∙ rw e
+first_here p i n l e = ap (first_that p) (range_more i n l) ∙ rw (first_that, e)
 
 pub first_later : (p : ℕ → Bool) (i n : ℕ) → i < n → p i ≡ false → first_that p (range i (n - i)) ≡ first_that p (range (i + 1) (n - (i + 1)))
-first_later p i n l e = ap (first_that p) (range_more i n l) ∙ rw e
+first_later p i n l e = ap (first_that p) (range_more i n l) ∙ rw (first_that, e)
 
 pub first_none : (p : ℕ → Bool) (i n : ℕ) → n ≤ i → first_that p (range i (n - i)) ≡ None
 first_none p i n l = ap (first_that p) (range_all i n l)

@@ -1,6 +1,6 @@
 -- Laws of channels, walks and folds over ranges.
 use Rattle.std.proofs.Common.{◌≡◌, ℕ, zero, suc, ◌+◌, ◌<◌, ◌≤◌, Bool, true, false, ◌⊎◌, List, [], ◌∷◌, ◌++◌, length, get_or, Some, None, Option, sym, refl, ap, ◌∙◌, subst, inl, inr, add-zero, arith}
-use Rattle.std.specs.List.{AllByRecursion as All}
+use Rattle.std.specs.List.{AllByRecursion}
 use Rattle.std.proofs.lemmas.Bool.Decides.{nat_tests}
 use Rattle.std.proofs.lemmas.Bool.{cases_eq, both_ways}
 use Rattle.wiring.specs.Lists.{range, fold, first_that}
@@ -108,9 +108,9 @@ pub first_found : (p : ℕ → Bool) (k n j : ℕ) → k ≤ j → j < k + n →
 first_found p k zero j a b q = absurd (omega arith)
 first_found p k (suc n) j a b q = first_found_case p k n j (p k) refl a q (λ l. first_found p (suc k) n j l (omega arith) q)
 
-range_among : (k a n : ℕ) → a + n ≤ k → All (λ i. i < k) (range a n)
+range_among : (k a n : ℕ) → a + n ≤ k → AllByRecursion (λ i. i < k) (range a n)
 range_among k a zero h = tt
 range_among k a (suc n) h = (omega arith, range_among k (suc a) n (omega arith))
 
-pub range_below : (n : ℕ) → All (λ i. i < n) (range 0 n)
+pub range_below : (n : ℕ) → AllByRecursion (λ i. i < n) (range 0 n)
 range_below n = range_among n 0 n (omega arith)

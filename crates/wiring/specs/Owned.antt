@@ -1,6 +1,6 @@
 -- A node's own channels, and the channels into it.
 use Rattle.std.specs.Prelude.{◌≡◌, ℕ, zero, suc, ◌<◌, ◌≤◌, List, [], ◌∷◌, ◌++◌, map, filter, nat_eq}
-use Rattle.std.specs.List.{ContainsAt as Has, AllByRecursion as All}
+use Rattle.std.specs.List.{ContainsAt, AllByRecursion}
 use Rattle.wiring.specs.Topologies.{Topology, channels, partner, from, into, all_channels}
 
 -- the channels that start at n, upward
@@ -23,8 +23,8 @@ laid w (suc n) = laid w n ++ own w n
 
 -- what a node's own channels are, in the words of the wiring
 pub record Owns (w : Topology) (n : ℕ) (cs : List ℕ) : Type 0 where
-  pub start : All (λ c. (c < channels w) × (from w c ≡ n)) cs
-  pub every : (c : ℕ) → c < channels w → from w c ≡ n → Has cs c
+  pub start : AllByRecursion (λ c. (c < channels w) × (from w c ≡ n)) cs
+  pub every : (c : ℕ) → c < channels w → from w c ≡ n → ContainsAt cs c
   pub rise : Ascends 0 cs
   pub partners : inward w n ≡ map partner cs
   pub partners_rise : Ascends 0 (map partner cs)

@@ -1,4 +1,6 @@
 // Wirings: nodes, links and channels, and the cells of forwarding tables.
+#![tactic(auto)]
+
 mod channels;
 mod joining;
 mod laying;

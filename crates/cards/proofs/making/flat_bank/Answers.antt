@@ -9,5 +9,5 @@ pub returns : goal.returns
 returns c =
     let w = topology c.in-Ok.wiring in
     let read = c.in-Ok.ensures.answer in
-    let exact = c.in-Ok-from-elem.ensures.items-if-clones-equal in
+    let exact = c.in-Ok-from_elem.ensures.items_if_clones_equal in
     (w, sym read, made_is w _ _ _ c.nodes-nodes.ensures refl (ap entry (exact (λ y e. e)) ∙ grid_none Empty 4096))

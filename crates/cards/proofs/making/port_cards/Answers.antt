@@ -13,7 +13,7 @@ pub returns : goal.returns
 returns c =
     let w = topology c.in-Ok.wiring in
     let p = c.new-ports.result in
-    let empty = ap (λ (xs : List PortCell). grid no_cell xs) (c.in-Ok-from-elem.ensures.items-if-clones-equal (λ y e. e)) ∙ grid_none no_cell 4096 in (
+    let empty = ap (λ (xs : List PortCell). grid no_cell xs) (c.in-Ok-from_elem.ensures.items_if_clones_equal (λ y e. e)) ∙ grid_none no_cell 4096 in (
       w,
       sym c.in-Ok.ensures.answer,
       made_is w _ _ _ c.nodes-nodes.ensures (owned_by_ports w (valid c.in-Ok.wiring) p c.new-ports.ensures.answer) (ap (λ (h : ℕ → ℕ → PortCell). standing_by (owned p) h) empty),

@@ -8,5 +8,5 @@ use Rattle.cards.proofs.ported.read_port.Goals as goal
 pub returns-else-at-own : goal.returns-else-at-own
 returns-else-at-own c =
     let own = c.args.own.now in
-    ap (λ e. Hop e c.in-Port.layer) (sym (get_or_past own c.saturating-sub-at.result 0 c.if-at-own.false) ∙ ap (λ i. get_or own i 0) c.saturating-sub-at.ensures)
+    ap (λ e. Hop e c.in-Port.layer) (sym (get_or_past own c.saturating_sub-at.result 0 c.if-at-own.false) ∙ ap (λ i. get_or own i 0) c.saturating_sub-at.ensures)
     ∙ ap (λ (x : PortCell). meant_by own x) (sym c.in-Port.is)

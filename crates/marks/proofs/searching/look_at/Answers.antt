@@ -8,7 +8,7 @@ use Rattle.marks.specs.Marked.{is_used, mark_in}
 use Rattle.marks.proofs.MarkedLaws.{used_by_test}
 use Rattle.marks.proofs.SearchLaws.{Looked, own_below, looked_used, looked_other, looked_all}
 use Rattle.marks.proofs.searching.look_at.Goals as goal
-use Rattle.marks.proofs.searching.look_at.Goals.{then-is-used, else-is-used}
+use Rattle.marks.proofs.searching.look_at.Goals.{then-is_used, else-is_used}
 
 pub add-requires : goal.add-requires
 add-requires c =
@@ -25,13 +25,13 @@ loop-y-preserved c =
     let i = c.loop-y.y-index in
     let at : c.into.result ≡ into w x = c.into.ensures ∙ ap (λ (t : Topology). into t x) c.wiring.ensures in
     let exact = c.own-own.ensures.exact in
-    elim c.if-is-used.branch [
-      | then-is-used w' ↦
+    elim c.if-is_used.branch [
+      | then-is_used w' ↦
           subst (λ (u : Visits). Looked w v x os c.args.visits.now u (i + 1)) (sym w'.visits-is)
-          (looked_used w v x c.into.result os at exact c.args.visits.now c.loop-y.visits w'.add.new.self i c.loop-y-test.true (used_by_test _ (sym c.is_used.ensures ∙ w'.if-is-used.true)) c.loop-y.invariant w'.add.ensures.grown w'.add.ensures.found)
-      | else-is-used w' ↦
+          (looked_used w v x c.into.result os at exact c.args.visits.now c.loop-y.visits w'.add.new.self i c.loop-y-test.true (used_by_test _ (sym c.is_used.ensures ∙ w'.if-is_used.true)) c.loop-y.invariant w'.add.ensures.grown w'.add.ensures.found)
+      | else-is_used w' ↦
           subst (λ (u : Visits). Looked w v x os c.args.visits.now u (i + 1)) (sym w'.visits-is)
-          (looked_other w v x c.into.result os at exact c.args.visits.now c.loop-y.visits i (λ z. both_ways c.is_used.result w'.if-is-used.false (c.is_used.ensures ∙ ap is_used z)) c.loop-y.invariant)
+          (looked_other w v x c.into.result os at exact c.args.visits.now c.loop-y.visits i (λ z. both_ways c.is_used.result w'.if-is_used.false (c.is_used.ensures ∙ ap is_used z)) c.loop-y.invariant)
     ]
 
 pub returns : goal.returns

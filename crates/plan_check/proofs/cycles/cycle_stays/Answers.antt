@@ -13,6 +13,6 @@ returns-then-not-sweep c = λ D N.
     let w = topology c.args.wiring.now in
     let swept = c.sweep.ensures in
     let count = c.channels.ensures in
-    stays_answer w c.args.marks.now c.sweep.new.gone D c.any-left.result (few_channels c.args.wiring.now) N (swept.stuck c.if-not-sweep.true) (swept.grounded D N (c.loop-gone.invariant.1 D N))
-    (λ e. subst (λ k. Left c.sweep.new.gone k) count (c.any-left.ensures.left e))
-    (λ e k l. c.any-left.ensures.all e k (omega arith))
+    stays_answer w c.args.marks.now c.sweep.new.gone D c.any_left.result (few_channels c.args.wiring.now) N (swept.stuck c.if-not-sweep.true) (swept.grounded D N (c.loop-gone.invariant.1 D N))
+    (λ e. subst (λ k. Left c.sweep.new.gone k) count (c.any_left.ensures.left e))
+    (λ e k l. c.any_left.ensures.all e k (omega arith))

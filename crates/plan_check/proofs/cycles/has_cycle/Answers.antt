@@ -4,5 +4,5 @@ use Rattle.wiring.specs.Wirings.{topology}
 use Rattle.plan_check.proofs.NotingLaws.{none_noted}
 use Rattle.plan_check.proofs.cycles.has_cycle.Goals as goal
 
-pub note-layer-requires : goal.note-layer-requires
-note-layer-requires g c = record { size = length-replicate {A = Bool} 57600 false; sound = c.requires.sound; none = none_noted (topology c.args.wiring.now) 57600 }
+pub note_layer-requires : goal.note_layer-requires
+note_layer-requires g c = record { size = length-replicate {A = Bool} 57600 false; sound = c.requires.sound; none = none_noted (topology c.args.wiring.now) 57600 }

@@ -9,8 +9,8 @@ use Rattle.plan_check.specs.Marks.{HeldAmong, FreeAmong}
 use Rattle.plan_check.proofs.SweepLaws.{held_own, free_own, sweep_stays, sweep_takes}
 use Rattle.plan_check.proofs.cycles.sweep.Goals as goal
 
-pub is-held-requires : goal.is-held-requires
-is-held-requires c =
+pub is_held-requires : goal.is_held-requires
+is_held-requires c =
     let w = topology c.args.wiring.now in
     let l = c.loop-c in
     let same : c.own.result.now ≡ own w (into w l.c) = c.own.ensures ∙ c.requires.laid c.into.result ∙ ap (own w) c.into.ensures in
@@ -24,12 +24,12 @@ is-held-requires c =
           (λ k h. let b = (All-get_or (λ e. (e < channels w) × (from w e ≡ into w l.c)) (own w (into w l.c)) k 0 h (own_laws w (valid c.args.wiring.now) (into w l.c)).start).0 in omega arith);
     }
 
-pub loop-c-preserved-then-is-held : goal.loop-c-preserved-then-is-held
-loop-c-preserved-then-is-held c =
+pub loop-c-preserved-then-is_held : goal.loop-c-preserved-then-is_held
+loop-c-preserved-then-is_held c =
     let w = topology c.args.wiring.now in
     let l = c.loop-c in
     let same : c.own.result.now ≡ own w (into w l.c) = c.own.ensures ∙ c.requires.laid c.into.result ∙ ap (own w) c.into.ensures in
-    let held = subst (λ (es : List ℕ). HeldAmong es c.args.marks.now l.gone l.c) same (c.is-held.ensures.held c.if-is-held.true) in
+    let held = subst (λ (es : List ℕ). HeldAmong es c.args.marks.now l.gone l.c) same (c.is_held.ensures.held c.if-is_held.true) in
     sweep_stays w c.args.marks.now c.args.gone.now l.c l.gone l.taken l.invariant (λ e. held_own w c.args.marks.now l.gone l.c (own_laws w (valid c.args.wiring.now) (into w l.c)) held)
 
 pub loop-c-preserved : goal.loop-c-preserved
@@ -37,7 +37,7 @@ loop-c-preserved c =
     let w = topology c.args.wiring.now in
     let l = c.loop-c in
     let same : c.own.result.now ≡ own w (into w l.c) = c.own.ensures ∙ c.requires.laid c.into.result ∙ ap (own w) c.into.ensures in
-    let free = subst (λ (es : List ℕ). FreeAmong es c.args.marks.now l.gone l.c (length es)) same (c.is-held.ensures.free c.if-is-held.false) in
+    let free = subst (λ (es : List ℕ). FreeAmong es c.args.marks.now l.gone l.c (length es)) same (c.is_held.ensures.free c.if-is_held.false) in
     let few = few_channels c.args.wiring.now in
     let below = c.loop-c-test.true in
     let count = c.channels-count.ensures in

@@ -13,15 +13,15 @@ loop-d-preserved g c =
     let f = deps_of w t c.args.v in
     let l = c.loop-d in
     let before = upto w f [] l.d l.d in
-    noted_step w f [] l.d c.note-to.new.marks (fold (dep_at w t l.d) before (all_nodes w)) (deps_yes w t c.args.v l.d before (sym c.layer-to.ensures ∙ c.if-layer-to-v.false)) (c.note-to.ensures before l.invariant)
+    noted_step w f [] l.d c.note_to.new.marks (fold (dep_at w t l.d) before (all_nodes w)) (deps_yes w t c.args.v l.d before (sym c.layer_to.ensures ∙ c.if-layer_to-v.false)) (c.note_to.ensures before l.invariant)
 
-pub loop-d-preserved-then-layer-to-v : goal.loop-d-preserved-then-layer-to-v
-loop-d-preserved-then-layer-to-v g c =
+pub loop-d-preserved-then-layer_to-v : goal.loop-d-preserved-then-layer_to-v
+loop-d-preserved-then-layer_to-v g c =
     let w = topology c.args.wiring.now in
     let t = g.T.Cells.meant c.args.cells.now in
     let f = deps_of w t c.args.v in
     let l = c.loop-d in
-    noted_idle w f [] l.d l.marks (deps_no w t c.args.v l.d (upto w f [] l.d l.d) (λ e. c.if-layer-to-v.true (c.layer-to.ensures ∙ e))) l.invariant
+    noted_idle w f [] l.d l.marks (deps_no w t c.args.v l.d (upto w f [] l.d l.d) (λ e. c.if-layer_to-v.true (c.layer_to.ensures ∙ e))) l.invariant
 
 pub returns : goal.returns
 returns g c =

@@ -5,11 +5,11 @@ use Rattle.plan_check.specs.Rules.{dep_at}
 use Rattle.plan_check.proofs.NotingLaws.{upto, noted_idle, noted_more, noted_end}
 use Rattle.plan_check.proofs.noting.note_to.Goals as goal
 
-pub loop-n-preserved-in-default : goal.loop-n-preserved-in-default
-loop-n-preserved-in-default g c = λ D N.
+pub loop-n-preserved-in_default : goal.loop-n-preserved-in_default
+loop-n-preserved-in_default g c = λ D N.
     let w = topology c.args.wiring.now in
     let f = dep_at w (g.T.Cells.meant c.args.cells.now) c.args.d in
-    noted_idle w f D c.loop-n.n c.loop-n.marks (c.in-default.ensures.same (upto w f D c.loop-n.n c.loop-n.n)) (c.loop-n.invariant D N)
+    noted_idle w f D c.loop-n.n c.loop-n.marks (c.in_default.ensures.same (upto w f D c.loop-n.n c.loop-n.n)) (c.loop-n.invariant D N)
 
 pub bounds-marks-p : goal.bounds-marks-p
 bounds-marks-p g c =

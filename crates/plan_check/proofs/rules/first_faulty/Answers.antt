@@ -7,7 +7,7 @@ pub loop-d-preserved : goal.loop-d-preserved
 loop-d-preserved g c = below_more _ _ c.loop-d.invariant (λ k h. c.loop-n.invariant k (omega arith))
 
 pub loop-n-preserved : goal.loop-n-preserved
-loop-n-preserved g c = below_more _ _ c.loop-n.invariant (sym c.in-default.ensures)
+loop-n-preserved g c = below_more _ _ c.loop-n.invariant (sym c.in_default.ensures)
 
 pub returns-in-Some : goal.returns-in-Some
 returns-in-Some g c =

@@ -5,14 +5,14 @@ use Rattle.wiring.specs.Wirings.{topology}
 use Rattle.plan_check.proofs.FirstLaws.{found_at, found_none, layer_faulty, layer_fine}
 use Rattle.plan_check.proofs.verdict.first_cyclic.Goals as goal
 
-pub returns-then-has-cycle : goal.returns-then-has-cycle
-returns-then-has-cycle g c =
+pub returns-then-has_cycle : goal.returns-then-has_cycle
+returns-then-has_cycle g c =
     let w = topology c.args.wiring.now in
     let t = g.T.Cells.meant c.args.cells.now in
-    sym (found_at (layer_fault w t) w.layers c.loop-v.v (CycleFault c.loop-v.v) (omega arith) c.loop-v.invariant (layer_faulty w t c.loop-v.v c.if-has-cycle.ensures))
+    sym (found_at (layer_fault w t) w.layers c.loop-v.v (CycleFault c.loop-v.v) (omega arith) c.loop-v.invariant (layer_faulty w t c.loop-v.v c.if-has_cycle.ensures))
 
 pub loop-v-preserved : goal.loop-v-preserved
-loop-v-preserved g c = below_more _ _ c.loop-v.invariant (layer_fine (topology c.args.wiring.now) (g.T.Cells.meant c.args.cells.now) c.loop-v.v c.if-has-cycle.ensures)
+loop-v-preserved g c = below_more _ _ c.loop-v.invariant (layer_fine (topology c.args.wiring.now) (g.T.Cells.meant c.args.cells.now) c.loop-v.v c.if-has_cycle.ensures)
 
 pub returns : goal.returns
 returns g c =

@@ -10,12 +10,12 @@ loop-at-init g c =
     let xs = c.args.run.now in
     (omega arith, IsPermutation-refl xs, rise_begins (sooner g.K.Cost.atmost) xs (length xs) c.requires.some c.requires.heaped)
 
-pub returns-then-not-comes-sooner : goal.returns-then-not-comes-sooner
-returns-then-not-comes-sooner g c =
+pub returns-then-not-comes_sooner : goal.returns-then-not-comes_sooner
+returns-then-not-comes_sooner g c =
     let l = c.loop-at in
     record {
       shuffled = l.invariant.1;
-      heaped = rise_rests (sooner g.K.Cost.atmost) l.run l.at (length c.args.run.now) c.if-not-comes-sooner.ensures l.invariant.2;
+      heaped = rise_rests (sooner g.K.Cost.atmost) l.run l.at (length c.args.run.now) c.if-not-comes_sooner.ensures l.invariant.2;
     }
 
 pub loop-at-preserved : goal.loop-at-preserved
@@ -29,7 +29,7 @@ loop-at-preserved g c =
     let below : l.at < length xs = l.invariant.0 in (
       omega (arith, c.swap.ensures.len),
       IsPermutation-trans c.args.run.now xs ys l.invariant.1 c.swap.ensures.permutation,
-      rise_steps (sooner g.K.Cost.atmost) (ranks g.K.Cost.atmost g.met.K.Cost.total g.met.K.Cost.chain) xs ys ((l.at - 1) / 2) l.at (length c.args.run.now) (omega arith) (omega arith) (omega arith) (p.0, p.1, p.2) c.if-not-comes-sooner.ensures l.invariant.2,
+      rise_steps (sooner g.K.Cost.atmost) (ranks g.K.Cost.atmost g.met.K.Cost.total g.met.K.Cost.chain) xs ys ((l.at - 1) / 2) l.at (length c.args.run.now) (omega arith) (omega arith) (omega arith) (p.0, p.1, p.2) c.if-not-comes_sooner.ensures l.invariant.2,
     )
 
 pub returns : goal.returns

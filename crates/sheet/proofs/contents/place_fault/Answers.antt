@@ -6,8 +6,8 @@ use Rattle.sheet.specs.Contents.{in_place, due_at, first_body}
 use Rattle.sheet.proofs.LineLaws.{line_left, line_after, line_is, line_passes, line_stops, line_none, not_placed, ended, not_ended}
 use Rattle.sheet.proofs.contents.place_fault.Goals as goal
 
-pub returns-in-default : goal.returns-in-default
-returns-in-default c = absurd (line_left c.args.sheet.now c.args.due.now c.loop-i.i c.loop-i.invariant.0 (omega arith) (omega arith) c.in-default.ensures.answer)
+pub returns-in_default : goal.returns-in_default
+returns-in_default c = absurd (line_left c.args.sheet.now c.args.due.now c.loop-i.i c.loop-i.invariant.0 (omega arith) (omega arith) c.in_default.ensures.answer)
 
 pub returns-then-line-place : goal.returns-then-line-place
 returns-then-line-place c =
@@ -26,7 +26,7 @@ loop-i-preserved c =
 pub returns : goal.returns
 returns c =
     let all : c.loop-i.i ≡ length c.args.due.now = omega arith in
-    rw c.saturating-sub-last.ensures (sym (not_ended c.args.due.now c.args.sheet.now c.loop-i.place (c.loop-i.invariant.1 ∙ line_none (in_place (first_body c.args.due.now) c.args.sheet.now) BodyPlace c.args.due.now c.loop-i.i (omega arith)) (c.loop-i.invariant.2 ∙ ap (due_at (first_body c.args.due.now) c.args.sheet.now) all) (λ e. omega arith)))
+    rw c.saturating_sub-last.ensures (sym (not_ended c.args.due.now c.args.sheet.now c.loop-i.place (c.loop-i.invariant.1 ∙ line_none (in_place (first_body c.args.due.now) c.args.sheet.now) BodyPlace c.args.due.now c.loop-i.i (omega arith)) (c.loop-i.invariant.2 ∙ ap (due_at (first_body c.args.due.now) c.args.sheet.now) all) (λ e. omega arith)))
 
 pub returns-then-place-sheet : goal.returns-then-place-sheet
 returns-then-place-sheet c =

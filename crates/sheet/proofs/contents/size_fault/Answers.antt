@@ -7,8 +7,8 @@ use Rattle.sheet.specs.Contents.{has_size}
 use Rattle.sheet.proofs.LineLaws.{line_left, line_after, line_is, line_passes, line_stops, line_none}
 use Rattle.sheet.proofs.contents.size_fault.Goals as goal
 
-pub returns-in-default : goal.returns-in-default
-returns-in-default c = absurd (line_left c.args.sheet.now c.args.due.now c.loop-i.i c.loop-i.invariant.0 (omega arith) (omega arith) c.in-default.ensures.answer)
+pub returns-in_default : goal.returns-in_default
+returns-in_default c = absurd (line_left c.args.sheet.now c.args.due.now c.loop-i.i c.loop-i.invariant.0 (omega arith) (omega arith) c.in_default.ensures.answer)
 
 pub returns-then-not-fits : goal.returns-then-not-fits
 returns-then-not-fits c =

@@ -11,10 +11,10 @@ returns-in-Some c = record { answer = search rules; one_sheet = λ p e. absurd (
 pub returns : goal.returns
 returns c =
     let s = c.args.bytes.now in
-    let f = fine plan_letters s (sym c.in-default.ensures.answer) in
+    let f = fine plan_letters s (sym c.in_default.ensures.answer) in
     let second = c.body.ensures.rest ∙ line_after s plan_letters 0 c.new-reader.ensures.rest f.whole.room (lit< tt) in
     let answer = c.whole_plan.ensures
-    ∙ plan_is s _ _ _ (sym c.in-default.ensures.answer) c.byte-at-nodes.ensures
+    ∙ plan_is s _ _ _ (sym c.in_default.ensures.answer) c.byte_at-nodes.ensures
     (c.body.ensures.answer ∙ body_there plan_letters s f 0 (lit< tt) c.new-reader.ensures.sheet c.new-reader.ensures.rest)
     (c.body-cells.ensures.answer ∙ body_there plan_letters s f 1 (lit< tt) (c.body.ensures.sheet ∙ c.new-reader.ensures.sheet) second) in
-    record { answer = answer; one_sheet = λ p e. one_sheet s p (λ i. omega (arith, c.type-inv.bytes i)) (sym answer ∙ e) }
+    record { answer = answer; one_sheet = λ p e. one_sheet s p (λ i. omega (arith, c.type_inv.bytes i)) (sym answer ∙ e) }

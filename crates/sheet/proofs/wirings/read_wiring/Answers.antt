@@ -11,13 +11,13 @@ use Rattle.sheet.proofs.wirings.read_wiring.Goals as goal
 pub returns-in-Some : goal.returns-in-Some
 returns-in-Some c = record { answer = search rules; valid = λ n e. absurd (never_unjoined wiring_letters c.args.bytes.now n (sym c.in-Some.ensures.answer ∙ ap Some e)) }
 
-pub whole-wiring-requires : goal.whole-wiring-requires
-whole-wiring-requires c = few_links c.args.bytes.now (sym c.in-default.ensures.answer) c.new-reader.ensures.sheet c.new-reader.ensures.rest c.body-links.ensures.answer
+pub whole_wiring-requires : goal.whole_wiring-requires
+whole_wiring-requires c = few_links c.args.bytes.now (sym c.in_default.ensures.answer) c.new-reader.ensures.sheet c.new-reader.ensures.rest c.body-links.ensures.answer
 
 pub returns : goal.returns
 returns c =
     let s = c.args.bytes.now in
-    let none = sym c.in-default.ensures.answer in
+    let none = sym c.in_default.ensures.answer in
     let f = fine wiring_letters s none in
     let second = c.body-links.ensures.rest ∙ line_after s wiring_letters 0 c.new-reader.ensures.rest f.whole.room (lit< tt) in
     let third = c.body.ensures.rest ∙ line_after s wiring_letters 1 second f.whole.room (lit< tt) in
@@ -25,11 +25,11 @@ returns c =
     let sheet-3 = c.body.ensures.sheet ∙ sheet-2 in
     let same = wiring_is s _ _ _ _ _
     (c.body-links.ensures.answer ∙ body_there wiring_letters s f 0 (lit< tt) c.new-reader.ensures.sheet c.new-reader.ensures.rest)
-    c.byte-at-nodes.ensures
+    c.byte_at-nodes.ensures
     (c.body.ensures.answer ∙ body_there wiring_letters s f 1 (lit< tt) sheet-2 second)
-    c.byte-at-layers.ensures
+    c.byte_at-layers.ensures
     (c.body-2.ensures.answer ∙ body_there wiring_letters s f 2 (lit< tt) sheet-3 third) in
     record {
-      answer = c.whole-wiring.ensures.answer ∙ ap sound_answer same ∙ read_is s none;
-      valid = subst (λ (w : Topology). MatchResult c.whole-wiring.result (λ v. Valid (topology v)) (λ f. LowestTold w f)) same c.whole-wiring.ensures.valid;
+      answer = c.whole_wiring.ensures.answer ∙ ap sound_answer same ∙ read_is s none;
+      valid = subst (λ (w : Topology). MatchResult c.whole_wiring.result (λ v. Valid (topology v)) (λ f. LowestTold w f)) same c.whole_wiring.ensures.valid;
     }

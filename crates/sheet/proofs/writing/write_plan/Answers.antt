@@ -9,6 +9,6 @@ returns g c =
     let m = c.args.memory.now in
     record {
       answer = accepted n t m (omega arith) (omega arith) (omega arith);
-      after = written n t m (omega arith) (omega arith) (omega arith) _ _ _ (omega arith) c.write-head.ensures c.write-table.ensures;
-      reads_back = reads_back n t m (omega arith) (omega arith) (omega arith) _ _ _ (omega arith) c.write-head.ensures c.write-table.ensures;
+      after = written n t m (omega arith) (omega arith) (omega arith) _ _ _ (omega arith) c.write_head.ensures c.write_table.ensures;
+      reads_back = reads_back n t m (omega arith) (omega arith) (omega arith) _ _ _ (omega arith) c.write_head.ensures c.write_table.ensures;
     }

@@ -18,7 +18,7 @@ pub loop-round-preserved : goal.loop-round-preserved
 loop-round-preserved c =
     let l = c.loop-round in
     let w = drawn c.args.nodes 0 c.args.links.now in
-    ap (λ (s : List (Option ℕ)). fold (level_round w) s (range (l.round + 1) (c.args.nodes - (l.round + 1)))) c.run-round.ensures.after
+    ap (λ (s : List (Option ℕ)). fold (level_round w) s (range (l.round + 1) (c.args.nodes - (l.round + 1)))) c.run_round.ensures.after
     ∙ sym (fold_more (level_round w) l.ranks l.round c.args.nodes (omega arith))
     ∙ l.invariant
 

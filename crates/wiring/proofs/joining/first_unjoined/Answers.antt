@@ -7,8 +7,8 @@ use Rattle.wiring.proofs.joining.first_unjoined.Goals as goal
 abbrev lacks : List (Option ℕ) → ℕ → Bool
 lacks ranks i = not (is_some (get_or ranks i None))
 
-pub find-levels-requires : goal.find-levels-requires
-find-levels-requires c =
+pub find_levels-requires : goal.find_levels-requires
+find_levels-requires c =
     let n = c.args.nodes in
     let p = c.requires.within in
     let empty = blank n p.2 in
@@ -18,20 +18,20 @@ pub loop-n-init : goal.loop-n-init
 loop-n-init c =
     let n = c.args.nodes in
     let e : n - 0 ≡ n = omega arith in
-    ap (λ m. first_that (lacks c.find-levels.new.ranks) (range 0 m)) e
-    ∙ ap (λ (s : List (Option ℕ)). first_that (lacks s) (range 0 n)) c.find-levels.ensures.after
+    ap (λ m. first_that (lacks c.find_levels.new.ranks) (range 0 m)) e
+    ∙ ap (λ (s : List (Option ℕ)). first_that (lacks s) (range 0 n)) c.find_levels.ensures.after
 
-pub returns-then-is-none : goal.returns-then-is-none
-returns-then-is-none c =
+pub returns-then-is_none : goal.returns-then-is_none
+returns-then-is_none c =
     let l = c.loop-n in
-    sym (first_here (lacks c.find-levels.new.ranks) l.n c.args.nodes (omega arith) (ap not c.if-is-none.ensures)) ∙ l.invariant
+    sym (first_here (lacks c.find_levels.new.ranks) l.n c.args.nodes (omega arith) (ap not c.if-is_none.ensures)) ∙ l.invariant
 
 pub loop-n-preserved : goal.loop-n-preserved
 loop-n-preserved c =
     let l = c.loop-n in
-    sym (first_later (lacks c.find-levels.new.ranks) l.n c.args.nodes (omega arith) (ap not c.if-is-none.ensures)) ∙ l.invariant
+    sym (first_later (lacks c.find_levels.new.ranks) l.n c.args.nodes (omega arith) (ap not c.if-is_none.ensures)) ∙ l.invariant
 
 pub returns : goal.returns
 returns c =
     let l = c.loop-n in
-    sym (first_none (lacks c.find-levels.new.ranks) l.n c.args.nodes (omega arith)) ∙ l.invariant
+    sym (first_none (lacks c.find_levels.new.ranks) l.n c.args.nodes (omega arith)) ∙ l.invariant

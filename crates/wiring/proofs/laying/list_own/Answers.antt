@@ -21,14 +21,14 @@ room c =
     let h = listed_room (topology c.args.wiring.now) c.args.node c.args.begin c.args.held.now l.c l.held l.top l.invariant (omega arith) (sym c.from.ensures ∙ c.if-from-node.false) in
     omega arith
 
-pub overflow-cast-held : goal.overflow-cast-held
-overflow-cast-held c = let h = room c in omega arith
+pub overflow_cast-held : goal.overflow_cast-held
+overflow_cast-held c = let h = room c in omega arith
 
 pub bounds-held-top : goal.bounds-held-top
 bounds-held-top c = let h = room c in let long = c.loop-c.auto.held in let size = c.requires.room.0 in omega arith
 
-pub overflow-add-top : goal.overflow-add-top
-overflow-add-top c = let h = room c in omega arith
+pub overflow_add-top : goal.overflow_add-top
+overflow_add-top c = let h = room c in omega arith
 
 pub loop-c-preserved : goal.loop-c-preserved
 loop-c-preserved c =

@@ -7,8 +7,8 @@ use Rattle.cards.proofs.GridLaws.{grid_set}
 use Rattle.cards.proofs.PortLaws.{few_owned, standing_changed}
 use Rattle.cards.proofs.ported.NumberedStore.set.Goals as goal
 
-pub to-port-kept-requires : goal.to-port-kept-requires
-to-port-kept-requires c = subst (λ (xs : List ℕ). length xs ≤ 240) (sym c.own.ensures) (few_owned c.args.self.now.ports c.args.node)
+pub to_port-kept-requires : goal.to_port-kept-requires
+to_port-kept-requires c = subst (λ (xs : List ℕ). length xs ≤ 240) (sym c.own.ensures) (few_owned c.args.self.now.ports c.args.node)
 
 pub returns : goal.returns
 returns c =
@@ -19,9 +19,9 @@ returns c =
     let v = s.cells in
     let long = v.ok.0 in
     let own = owned s.ports in
-    let is : meant_by (own c.args.node) c.to-port-kept.result ≡ c.args.cell = subst (λ (xs : List ℕ). Holds (λ e. is_some (port_of xs e)) c.args.cell → meant_by xs c.to-port-kept.result ≡ c.args.cell) c.own.ensures c.to-port-kept.ensures p.2 in
+    let is : meant_by (own c.args.node) c.to_port-kept.result ≡ c.args.cell = subst (λ (xs : List ℕ). Holds (λ e. is_some (port_of xs e)) c.args.cell → meant_by xs c.to_port-kept.result ≡ c.args.cell) c.own.ensures c.to_port-kept.ensures p.2 in
     record {
       owned = refl;
-      held = ap (λ (h : ℕ → ℕ → PortCell). standing_by own h) (grid_set no_cell v.items c.args.node c.args.destination c.to-port-kept.result n d (omega arith))
-          ∙ standing_changed own (grid no_cell v.items) c.args.node c.args.destination c.to-port-kept.result c.args.cell is;
+      held = ap (λ (h : ℕ → ℕ → PortCell). standing_by own h) (grid_set no_cell v.items c.args.node c.args.destination c.to_port-kept.result n d (omega arith))
+          ∙ standing_changed own (grid no_cell v.items) c.args.node c.args.destination c.to_port-kept.result c.args.cell is;
     }

@@ -6,14 +6,14 @@ use Rattle.marks.proofs.visits.Visits.add.Goals as goal
 pub bounds-self-self : goal.bounds-self-self
 bounds-self-self c = let s = c.args.self.now in let l = s.sizes in let r = s.room in let f = unseen_set s.seen c.args.c (omega arith) c.if-self-c.false in omega arith
 
-pub invariant-of-self : goal.invariant-of-self
-invariant-of-self c =
+pub invariant_of-self : goal.invariant_of-self
+invariant_of-self c =
     let s = c.args.self.now in
     let l = s.sizes in
     let r = s.room in
     let f = unseen_set s.seen c.args.c (omega arith) c.if-self-c.false in
     let room : s.count + 1 + count_by not (set s.seen c.args.c true) ≤ 240 = omega arith in
-    ((length-set s.seen c.args.c true ∙ l.0, length-set s.stack s.count c.args.c ∙ l.1), (room, tt))
+    record { sizes = (length-set s.seen c.args.c true ∙ l.0, length-set s.stack s.count c.args.c ∙ l.1); room = room }
 
 pub returns : goal.returns
 returns c =

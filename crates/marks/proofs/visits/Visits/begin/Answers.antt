@@ -3,5 +3,5 @@ use Rattle.std.proofs.lemmas.List.{length-set, length-replicate}
 use Rattle.marks.proofs.SearchLaws.{room_begun}
 use Rattle.marks.proofs.visits.Visits.begin.Goals as goal
 
-pub invariant-of-result : goal.invariant-of-result
-invariant-of-result c = ((length-set (replicate 240 false) c.args.e true ∙ length-replicate 240 false, refl), (room_begun c.args.e c.requires, tt))
+pub invariant_of-result : goal.invariant_of-result
+invariant_of-result c = record { sizes = (length-set (replicate 240 false) c.args.e true ∙ length-replicate 240 false, refl); room = room_begun c.args.e c.requires }

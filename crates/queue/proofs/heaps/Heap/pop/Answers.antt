@@ -4,8 +4,8 @@ use Rattle.queue.proofs.OrderLaws.{ranks}
 use Rattle.queue.proofs.ContentLaws.{pop_length, pop_ready, pop_long, pop_least, pop_shuffled, pop_rest, longer, kept}
 use Rattle.queue.proofs.heaps.Heap.pop.Goals as goal
 
-pub sift-down-requires : goal.sift-down-requires
-sift-down-requires g c =
+pub sift_down-requires : goal.sift_down-requires
+sift_down-requires g c =
     let xs = c.args.self.now.entries.now in
     let n = c.args.self.now.len in
     let within : n ≤ length xs = c.requires.within in
@@ -18,11 +18,11 @@ returns g c =
     let n = c.args.self.now.len in
     let d = c.index-self-0.result in
     let e = c.index-self-len.result in
-    let run = c.sift-down.new.run in
+    let run = c.sift_down.new.run in
     let within : n ≤ length xs = c.requires.within in
     let is : n - 1 - 0 + 1 ≡ n = omega arith in
     let less : n - 1 ≡ n - 1 - 0 = omega arith in
-    let s = c.sift-down.ensures.shuffled in
+    let s = c.sift_down.ensures.shuffled in
     let long = pop_long xs n (n - 1 - 0) e within is run xs s ∙ sym less in
     record {
       popped = (
@@ -35,6 +35,6 @@ returns g c =
       lent = refl;
       ordered = record {
         within = longer run _ (n - 1) long;
-        heaped = kept (sooner g.K.Cost.atmost) run _ (n - 1) _ long (pop_length xs n (n - 1 - 0) e within is ∙ sym less) c.sift-down.ensures.heaped;
+        heaped = kept (sooner g.K.Cost.atmost) run _ (n - 1) _ long (pop_length xs n (n - 1 - 0) e within is ∙ sym less) c.sift_down.ensures.heaped;
       };
     }

@@ -4,8 +4,8 @@ use Rattle.queue.specs.Order.{sooner}
 use Rattle.queue.proofs.ContentLaws.{push_length, push_ready, push_long, push_shuffled, push_rest, longer, kept}
 use Rattle.queue.proofs.heaps.Heap.push.Goals as goal
 
-pub sift-up-requires : goal.sift-up-requires
-sift-up-requires g c =
+pub sift_up-requires : goal.sift_up-requires
+sift_up-requires g c =
     let xs = c.args.self.now.entries.now in
     let n = c.args.self.now.len in
     let more : n < length xs = omega arith in
@@ -20,10 +20,10 @@ returns g c =
     let xs = c.args.self.now.entries.now in
     let n = c.args.self.now.len in
     let x = c.args.new in
-    let run = c.sift-up.new.run in
+    let run = c.sift_up.new.run in
     let more : n < length xs = omega arith in
     let is : n + 1 - 0 ≡ n + 1 = omega arith in
-    let s = c.sift-up.ensures.shuffled in
+    let s = c.sift_up.ensures.shuffled in
     let long = push_long xs n (n + 1 - 0) x more is run (set xs n x) s in
     record {
       room = sym (lt-ltb n (length xs) more);
@@ -32,6 +32,6 @@ returns g c =
       lent = refl;
       ordered = record {
         within = longer run _ (n + 1) long;
-        heaped = kept (sooner g.K.Cost.atmost) run _ (n + 1) _ long (push_length xs n (n + 1 - 0) x more is) c.sift-up.ensures.heaped;
+        heaped = kept (sooner g.K.Cost.atmost) run _ (n + 1) _ long (push_length xs n (n + 1 - 0) x more is) c.sift_up.ensures.heaped;
       };
     }

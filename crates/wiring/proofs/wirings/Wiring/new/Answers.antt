@@ -14,33 +14,29 @@ returns-in-Some c =
       valid = λ n e. told_unjoined w n (sym c.in-Some.ensures ∙ ap Some e);
     }
 
-pub overflow-cast-count : goal.overflow-cast-count
-overflow-cast-count c = let few = few_of c.args.nodes c.args.layers c.args.links.now c.in-default.ensures in omega arith
+pub overflow_cast-count : goal.overflow_cast-count
+overflow_cast-count c = let few = few_of c.args.nodes c.args.layers c.args.links.now c.in_default.ensures in omega arith
 
 pub renewed-links-requires : goal.renewed-links-requires
-renewed-links-requires c = few_of c.args.nodes c.args.layers c.args.links.now c.in-default.ensures
+renewed-links-requires c = few_of c.args.nodes c.args.layers c.args.links.now c.in_default.ensures
 
-pub invariant-of-result : goal.invariant-of-result
-invariant-of-result c =
+pub invariant_of-result : goal.invariant_of-result
+invariant_of-result c =
     let n = c.args.nodes in
     let k = c.args.layers in
     let ls = c.args.links.now in
     let held = c.renewed-links.result in
     let front = c.renewed-links.ensures.front in
-    let none = c.in-default.ensures in
-    let fine = sound_valid (drawn n k ls) (sym none) in (
-      fine.few_nodes,
-      (
-        few_of n k ls none,
-        (
-          c.renewed-links.ensures.len,
-          (
-            held_pairs ls held front n k,
-            (held_fresh ls held front, (quiet _ (none ∙ ap topology_fault (sym (held_drawn ls held front n k))), tt)),
-          ),
-        ),
-      ),
-    )
+    let none = c.in_default.ensures in
+    let fine = sound_valid (drawn n k ls) (sym none) in
+    record {
+      few = fine.few_nodes;
+      room = few_of n k ls none;
+      held = c.renewed-links.ensures.len;
+      pairs = held_pairs ls held front n k;
+      begun = held_fresh ls held front;
+      sound = quiet _ (none ∙ ap topology_fault (sym (held_drawn ls held front n k)));
+    }
 
 pub returns : goal.returns
 returns c =
@@ -48,7 +44,7 @@ returns c =
     let k = c.args.layers in
     let ls = c.args.links.now in
     let same = held_drawn ls c.renewed-links.result c.renewed-links.ensures.front n k in
-    let none = c.in-default.ensures in
+    let none = c.in_default.ensures in
     record {
       answer = answer_none _ (drawn n k ls) same none;
       valid = subst Valid (sym same) (sound_valid (drawn n k ls) (sym none));
