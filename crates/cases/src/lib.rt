@@ -59,7 +59,7 @@ mod tests {
         assert_eq!(rt; wiring.from(2), 1);
         assert_eq!(rt; wiring.into(2), 2);
         let ports = Ports::new(wiring);
-        assert!(rt; ports.own(1) == &[1u8, 2]);
+        assert!(rt; ports.own(1) == [1u8, 2].as_slice());
         Ok(())
     }
 
@@ -109,7 +109,7 @@ mod tests {
         assert_eq!(rt; plan.cell(2, 2), Cell::Empty);
         let mut memory = [7u8; 31];
         assert_eq!(rt; write_plan(3, &plan, &mut memory)?, 30);
-        assert!(rt; &memory[0..30] == &PLAN);
+        assert!(rt; &memory[0..30] == PLAN.as_slice());
         assert_eq!(rt; memory[30], 7);
         Ok(())
     }

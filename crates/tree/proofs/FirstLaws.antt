@@ -15,10 +15,10 @@ first_kept {X} p q (x ∷ xs) = at (p x) (first_kept p q xs)
 -- from place i on
 module _ (p : ℕ → Bool) (xs : List ℕ) (i : ℕ) where
   pub first_at : i < length xs → p (get_or xs i 0) ≡ true → first_that p (drop i xs) ≡ Some (get_or xs i 0)
-  first_at l e = ap (first_that p) (drop_more xs i 0 l) ∙ rw e
+  first_at l e = ap (first_that p) (drop_more xs i 0 l) ∙ rw (first_that, e)
 
   pub first_on : i < length xs → p (get_or xs i 0) ≡ false → first_that p (drop i xs) ≡ first_that p (drop (i + 1) xs)
-  first_on l e = ap (first_that p) (drop_more xs i 0 l) ∙ rw e
+  first_on l e = ap (first_that p) (drop_more xs i 0 l) ∙ rw (first_that, e)
 
   pub first_over : length xs ≤ i → first_that p (drop i xs) ≡ None
   first_over l = ap (first_that p) (drop_all i xs l)

@@ -5,8 +5,8 @@
 ghost use Rattle.std.specs.Prelude.{◌<◌, IfSome};
 
 use anyhow::anyhow;
-use plan_check::check;
 use fault::Fault;
+use plan_check::check;
 use sheet::{read_plan, read_wiring};
 use std::alloc::Global;
 

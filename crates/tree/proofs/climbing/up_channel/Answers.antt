@@ -8,8 +8,8 @@ use Rattle.tree.proofs.FirstLaws.{first_at, first_on, first_over}
 use Rattle.tree.proofs.UpLaws.{goes_nearer}
 use Rattle.tree.proofs.climbing.up_channel.Goals as goal
 
-pub is-one-below-requires : goal.is-one-below-requires
-is-one-below-requires c =
+pub is_one_below-requires : goal.is_one_below-requires
+is_one_below-requires c =
     let low : c.into.result < 64 = subst (λ m. m < 64) (sym c.into.ensures) (ends_low c.wiring-wiring.result.now _) in
     let size = c.requires.0 in
     let below = c.requires.1 in
@@ -23,10 +23,10 @@ loop-i-preserved c =
     let p = goes_nearer w c.args.levels.now c.args.node in
     let here : c.into.result ≡ into w (get_or (own w c.args.node) i 0) = c.into.ensures ∙ ap₂ (λ (x : Topology) (ys : List ℕ). into x (get_or ys i 0)) c.wiring-wiring.ensures same in
     let inside : i < length (own w c.args.node) = subst (λ (ys : List ℕ). i < length ys) same c.loop-i-test.true in
-    sym (first_on p (own w c.args.node) i inside (ap (λ m. one_below c.args.levels.now m c.args.node) (sym here) ∙ sym c.if-is-one-below.ensures)) ∙ c.loop-i.invariant
+    sym (first_on p (own w c.args.node) i inside (ap (λ m. one_below c.args.levels.now m c.args.node) (sym here) ∙ sym c.if-is_one_below.ensures)) ∙ c.loop-i.invariant
 
-pub returns-then-is-one-below : goal.returns-then-is-one-below
-returns-then-is-one-below c =
+pub returns-then-is_one_below : goal.returns-then-is_one_below
+returns-then-is_one_below c =
     let w = net c.args.network.now in
     let i = c.loop-i.i in
     let same = c.own-own.ensures.answer in
@@ -34,7 +34,7 @@ returns-then-is-one-below c =
     let here : c.into.result ≡ into w (get_or (own w c.args.node) i 0) = c.into.ensures ∙ ap₂ (λ (x : Topology) (ys : List ℕ). into x (get_or ys i 0)) c.wiring-wiring.ensures same in
     let inside : i < length (own w c.args.node) = subst (λ (ys : List ℕ). i < length ys) same c.loop-i-test.true in
     ap (λ (ys : List ℕ). Some (get_or ys i 0)) same
-    ∙ sym (first_at p (own w c.args.node) i inside (ap (λ m. one_below c.args.levels.now m c.args.node) (sym here) ∙ sym c.if-is-one-below.ensures))
+    ∙ sym (first_at p (own w c.args.node) i inside (ap (λ m. one_below c.args.levels.now m c.args.node) (sym here) ∙ sym c.if-is_one_below.ensures))
     ∙ c.loop-i.invariant
 
 pub returns : goal.returns

@@ -16,15 +16,15 @@ use Rattle.tree.proofs.RoomLaws.{padded_long}
 use Rattle.tree.proofs.trees.EscapeTree.mark_destination.Goals as goal
 
 pub loop-n-init : goal.loop-n-init
-loop-n-init c = added_none (dep_of (net_of c.args.self.now) c.routes-to-routes.result) (all_nodes (net_of c.args.self.now)) (marked c.args.marks.now)
+loop-n-init c = added_none (dep_of (net_of c.args.self.now) c.routes_to-routes.result) (all_nodes (net_of c.args.self.now)) (marked c.args.marks.now)
 
-pub mark-node-requires : goal.mark-node-requires
-mark-node-requires c =
+pub mark_node-requires : goal.mark_node-requires
+mark_node-requires c =
     let t = c.args.self.now in
     let w = net_of t in
     let d = c.args.destination in
     let v = valid t.wiring.now in
-    let is = c.routes-to-routes.ensures.answer in
+    let is = c.routes_to-routes.ensures.answer in
     let few = v.few_nodes in
     let long = escape_long w t.root d in
     let below = c.loop-n-test.true in
@@ -40,8 +40,8 @@ loop-n-preserved c =
     let count = c.nodes-n-end.ensures in
     let long = length_range 0 w.nodes in
     let here : get_or (all_nodes w) n 0 ≡ n = get_or_range 0 w.nodes n 0 (omega arith) ∙ omega arith in
-    added_more (dep_of w c.routes-to-routes.result) (all_nodes w) (marked c.args.marks.now) n (marked c.loop-n.marks) (marked c.mark-node.new.marks) (omega arith) c.loop-n.invariant
-    (subst (λ m. Adds (dep_of w c.routes-to-routes.result) m (marked c.loop-n.marks) (marked c.mark-node.new.marks)) (sym here) c.mark-node.ensures)
+    added_more (dep_of w c.routes_to-routes.result) (all_nodes w) (marked c.args.marks.now) n (marked c.loop-n.marks) (marked c.mark_node.new.marks) (omega arith) c.loop-n.invariant
+    (subst (λ m. Adds (dep_of w c.routes_to-routes.result) m (marked c.loop-n.marks) (marked c.mark_node.new.marks)) (sym here) c.mark_node.ensures)
 
 pub returns : goal.returns
 returns c = λ u D q.
@@ -51,6 +51,6 @@ returns c = λ u D q.
     let over = c.loop-n-test.false in
     let count = c.nodes-n-end.ensures in
     let long = length_range 0 w.nodes in
-    let same = ap (dep_of w) c.routes-to-routes.ensures.answer ∙ dep_padded w vs in
-    added_all (dep_of w c.routes-to-routes.result) (all_nodes w) (marked c.args.marks.now) c.loop-n.n (marked c.loop-n.marks) (omega arith) c.loop-n.invariant u D q
+    let same = ap (dep_of w) c.routes_to-routes.ensures.answer ∙ dep_padded w vs in
+    added_all (dep_of w c.routes_to-routes.result) (all_nodes w) (marked c.args.marks.now) c.loop-n.n (marked c.loop-n.marks) (omega arith) c.loop-n.invariant u D q
     ∙ ap (λ (f : Deps → ℕ → Deps). with_all u (fold f D (all_nodes w))) same

@@ -12,7 +12,7 @@ loop-d-init c = added_none (deps_to (net_of c.args.self.now) (ups_of c.args.self
 pub loop-d-preserved : goal.loop-d-preserved
 loop-d-preserved c =
     let t = c.args.self.now in
-    added_more (deps_to (net_of t) (ups_of t)) c.args.destinations.now (marked c.args.marks.now) c.loop-d.d-index (marked c.loop-d.marks) (marked c.mark-destination.new.marks) c.loop-d-test.true c.loop-d.invariant c.mark-destination.ensures
+    added_more (deps_to (net_of t) (ups_of t)) c.args.destinations.now (marked c.args.marks.now) c.loop-d.d-index (marked c.loop-d.marks) (marked c.mark_destination.new.marks) c.loop-d-test.true c.loop-d.invariant c.mark_destination.ensures
 
 pub returns : goal.returns
 returns c =

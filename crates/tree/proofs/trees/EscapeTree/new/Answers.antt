@@ -25,17 +25,17 @@ loop-n-preserved c =
     let below = c.loop-n-test.true in
     let inside : n < w.nodes = omega arith in
     let ls : c.levels-levels.result ≡ padded (levels (net c.args.network.now) root) = c.levels-levels.ensures.answer ∙ ap (λ (x : Topology). padded (levels x root)) same in
-    filled_more (up_channels w root) n c.loop-n.ups c.loop-n.invariant c.up-channel.result (omega arith)
-    (up_found (net c.args.network.now) root n c.levels-levels.result c.up-channel.result ls c.up-channel.ensures (subst (λ (x : Topology). n < x.nodes) same inside)
+    filled_more (up_channels w root) n c.loop-n.ups c.loop-n.invariant c.up_channel.result (omega arith)
+    (up_found (net c.args.network.now) root n c.levels-levels.result c.up_channel.result ls c.up_channel.ensures (subst (λ (x : Topology). n < x.nodes) same inside)
     ∙ ap (λ (x : Topology). get_or (up_channels x root) n None) (sym same))
 
-pub invariant-of-result : goal.invariant-of-result
-invariant-of-result c =
+pub invariant_of-result : goal.invariant_of-result
+invariant_of-result c =
     let few = (valid c.wiring-wiring.result.now).few_nodes in
     let count = c.nodes-n-end.ensures in
     let over = c.loop-n-test.false in
     let long = ups_long (topology c.wiring-wiring.result.now) c.args.root in
-    (filled_all _ _ _ c.loop-n.invariant (omega arith) (omega arith), tt)
+    record { climbs = filled_all _ _ _ c.loop-n.invariant (omega arith) (omega arith) }
 
 pub returns : goal.returns
 returns c =

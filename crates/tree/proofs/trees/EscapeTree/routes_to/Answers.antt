@@ -13,8 +13,8 @@ use Rattle.tree.proofs.RoomLaws.{padded_long}
 use Rattle.tree.proofs.UpLaws.{level, ups_long}
 use Rattle.tree.proofs.trees.EscapeTree.routes_to.Goals as goal
 
-pub slice-bounds-stop-at-end : goal.slice-bounds-stop-at-end
-slice-bounds-stop-at-end c =
+pub slice_bounds-stop_at-end : goal.slice_bounds-stop_at-end
+slice_bounds-stop_at-end c =
     let t = c.args.self.now in
     let few = (valid t.wiring.now).few_nodes in
     let long = ups_long (net_of t) t.root in
@@ -26,11 +26,11 @@ loop-channel-init c =
     let d = c.args.destination in
     let few = (valid t.wiring.now).few_nodes in
     let long = ups_long (net_of t) t.root in
-    let is : c.stop-at.new.routes ≡ set (padded (ups_of t)) d None = c.stop-at.ensures ∙ ap (λ (us : List (Option ℕ)). set us d None) t.climbs in
+    let is : c.stop_at.new.routes ≡ set (padded (ups_of t)) d None = c.stop_at.ensures ∙ ap (λ (us : List (Option ℕ)). set us d None) t.climbs in
     (ap length is ∙ length-set (padded (ups_of t)) d None ∙ padded_long (ups_of t) (omega arith), descent_begins (net_of t) t.root (valid t.wiring.now) d _ is)
 
-pub turn-at-requires : goal.turn-at-requires
-turn-at-requires c =
+pub turn_at-requires : goal.turn_at-requires
+turn_at-requires c =
     let t = c.args.self.now in
     let known = (ups_known (net_of t) t.root (valid t.wiring.now) c.loop-channel.node c.in-Some.channel (sym c.in-Some.ensures.answer)).0 in
     let low : c.into-node.result < 64 = subst (λ m. m < 64) (sym c.into-node.ensures) (ends_low t.wiring.now _) in
@@ -44,7 +44,7 @@ loop-channel-preserved c =
     let w = net_of t in
     let us = ups_of t in
     let ch = c.in-Some.channel in
-    let turned = c.turn-at.ensures in (
+    let turned = c.turn_at.ensures in (
       ap length turned ∙ length-set c.loop-channel.routes _ _ ∙ c.loop-channel.invariant.0,
       ap (descend w us (level w t.root c.into-node.result) c.into-node.result) turned
           ∙ ap (λ m. descend w us (level w t.root m) m (set c.loop-channel.routes m (Some (partner ch)))) c.into-node.ensures
@@ -58,5 +58,5 @@ returns c =
     let w = net_of t in
     let us = ups_of t in
     let d = c.args.destination in
-    let is = sym (descend_end w us (level w t.root c.loop-channel.node) c.loop-channel.node c.loop-channel.routes (sym c.in-default.ensures.answer)) ∙ c.loop-channel.invariant.1 in
+    let is = sym (descend_end w us (level w t.root c.loop-channel.node) c.loop-channel.node c.loop-channel.routes (sym c.in_default.ensures.answer)) ∙ c.loop-channel.invariant.1 in
     record { answer = is; arrive = subst (AllEscape w t.root us d) (sym is) (all_escape w t.root (valid t.wiring.now) d) }
