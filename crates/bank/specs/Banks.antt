@@ -1,5 +1,5 @@
 -- The meaning of a bank of switch cards, and of its calls.
-use Rattle.std.specs.Prelude.{ℕ, Bool, true, false, cond, not, ◌&&◌, Ok, Err, Result, ◌==◌, nat_lt}
+use Rattle.std.specs.Prelude.{ℕ, Bool, cond, not, ◌&&◌, Ok, Err, Result, ◌==◌, nat_lt}
 use Rattle.fault.specs.declared.faults.Fault.{Fault}
 use Rattle.fault.specs.declared.faults.Fault.TheVariants.{NotSeated, NoSuchDestination, GateOpen, NotOwn, NoSuchLayer}
 use Rattle.wiring.specs.Lists.{only_if, after}

@@ -1,19 +1,17 @@
 -- Ports.
-use Rattle.std.proofs.Common.{◌≡◌, ℕ, zero, suc, ◌+◌, ◌-◌, ◌*◌, ◌<◌, ◌≤◌, min, Bool, true, false, cond, ◌&&◌, eqb, ltb, List, [], ◌∷◌, length, get_or, take, drop, set, is_some, Some, None, Option, sym, refl, ap, ◌∙◌, subst, add-one, arith}
+use Rattle.std.proofs.Common.{◌≡◌, ℕ, zero, suc, ◌+◌, ◌-◌, ◌<◌, ◌≤◌, Bool, true, false, cond, ◌&&◌, eqb, ltb, List, [], ◌∷◌, length, get_or, take, drop, is_some, Some, None, Option, sym, refl, ap, ◌∙◌, subst, add-one, arith}
 use mathlib.Core.Path.{fun_ext}
-use Rattle.std.specs.List.{ContainsAt}
 use Rattle.std.proofs.ByRecursion.{All-get_or}
 use Rattle.std.proofs.lemmas.List.{at_drop_more, at_drop_all, length-take, length-drop}
-use Rattle.std.proofs.lemmas.Bool.{cond_both, cond-true, eq-eqb, ne_eqb, eqb-true, and_from, and_parts, lt-ltb, ltb-true, both_ways, cases_Bool}
+use Rattle.std.proofs.lemmas.Bool.{cond_both, eq-eqb, ne_eqb, eqb-true, and_from, and_parts, lt-ltb, ltb-true, both_ways}
 use Rattle.wiring.specs.declared.own.Ports.{Ports}
 use Rattle.wiring.specs.declared.table.Cell.{Cell}
-use Rattle.wiring.specs.declared.table.Cell.TheVariants.{Empty, Hop}
+use Rattle.wiring.specs.declared.table.Cell.TheVariants.{Hop}
 use Rattle.wiring.specs.Spans.{owned}
 use Rattle.wiring.specs.Owned.{own}
 use Rattle.wiring.specs.Topologies.{Topology, Valid, channels, from, starts}
 use Rattle.wiring.proofs.LaidLaws.{own_laws}
 use Rattle.cards.specs.declared.numbered.PortCell.{PortCell}
-use Rattle.cards.specs.declared.numbered.PortCell.TheVariants.{Blank, Port}
 use Rattle.cards.specs.Decks.{changed, Holds}
 use Rattle.cards.specs.Porting.{port_from, port_of, meant_by, standing_by}
 

@@ -20,17 +20,17 @@ impl Cost for Load {
 
     ghost stepped = { λ x n. record { total = up_to most_load x.total n; light = up_to_fits most_load x.total n } };
 
-    ghost itself = { first_of (Prim.search rules, Prim.grind (arith, Self.row.coded.inj)) };
+    ghost itself = { Prim.search rules };
 
-    ghost apart = { first_of (Prim.search rules, Prim.grind (arith, Self.row.coded.inj)) };
+    ghost apart = { Prim.grind (arith, Self.row.coded.inj) };
 
-    ghost chain = { first_of (Prim.search rules, Prim.grind (arith, Self.row.coded.inj)) };
+    ghost chain = { Prim.search rules };
 
-    ghost total = { first_of (Prim.search rules, Prim.grind (arith, Self.row.coded.inj)) };
+    ghost total = { Prim.search rules };
 
-    ghost rises = { first_of (Prim.search rules, Prim.grind (arith, Self.row.coded.inj)) };
+    ghost rises = { Prim.search rules };
 
-    ghost keeps = { first_of (Prim.search rules, Prim.grind (arith, Self.row.coded.inj)) };
+    ghost keeps = { Prim.search rules };
 
     fn zero() -> Load {
         Load { total: 0 }

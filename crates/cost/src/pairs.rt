@@ -23,17 +23,17 @@ impl Cost for HopsThenLoad {
 
     ghost stepped = { λ x n. record { hops = up_to most_hops x.hops 1; load = loaded x.hops x.load n; few = up_to_fits most_hops x.hops 1; light = loaded_fits x.hops x.load n; spent = loaded_spent x.hops x.load n } };
 
-    ghost itself = { first_of (Prim.search rules, Prim.grind (arith, Self.row.coded.inj)) };
+    ghost itself = { Prim.search rules };
 
-    ghost apart = { first_of (Prim.search rules, Prim.grind (arith, Self.row.coded.inj)) };
+    ghost apart = { Prim.grind (arith, Self.row.coded.inj) };
 
-    ghost chain = { first_of (Prim.search rules, Prim.grind (arith, Self.row.coded.inj)) };
+    ghost chain = { Prim.search rules };
 
-    ghost total = { first_of (Prim.search rules, Prim.grind (arith, Self.row.coded.inj)) };
+    ghost total = { Prim.search rules };
 
-    ghost rises = { first_of (Prim.search rules, Prim.grind (arith, Self.row.coded.inj)) };
+    ghost rises = { Prim.search rules };
 
-    ghost keeps = { first_of (Prim.search rules, Prim.grind (arith, Self.row.coded.inj)) };
+    ghost keeps = { Prim.search rules };
 
     fn zero() -> HopsThenLoad {
         HopsThenLoad { hops: 0, load: 0 }

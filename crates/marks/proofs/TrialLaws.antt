@@ -1,7 +1,6 @@
 -- Trials: which dependencies are used before and after one.
-use Rattle.std.proofs.Common.{◌≡◌, ℕ, ◌<◌, ◌≤◌, Bool, true, false, cond, ◌&&◌, ◌||◌, eqb, ◌⊎◌, List, [], ◌∷◌, ◌++◌, sym, refl, ap, ◌∙◌, subst, ap₂, inl, inr, ⊎_elim, arith}
+use Rattle.std.proofs.Common.{◌≡◌, ℕ, ◌<◌, ◌≤◌, Bool, true, false, cond, ◌&&◌, ◌||◌, eqb, List, [], ◌∷◌, ◌++◌, sym, refl, ap, ◌∙◌, subst, ⊎_elim, arith}
 use Rattle.std.proofs.lemmas.Bool.{and_parts, and_from, or_left, or_right, or_cases, eqb-true, eq-eqb, both_ways, false≢true, cond-true}
-use Rattle.wiring.specs.Lists.{range}
 use Rattle.wiring.specs.Topologies.{Topology, channels, from, into, all_channels}
 use Rattle.plan_check.specs.Cycles.{Deps, has, acyclic}
 use Rattle.plan_check.specs.Marks.{Follows}

@@ -1,8 +1,8 @@
 -- A try of a dependency: the cycles of used dependencies, and the trial of the definition.
-use Rattle.std.proofs.Common.{◌≡◌, ℕ, ◌<◌, ◌≤◌, Bool, true, false, cond, ◌&&◌, ltb, ◌⊎◌, List, [], ◌∷◌, sym, refl, ap, ◌∙◌, subst, inl, inr, ⊎_elim, arith}
-use Rattle.std.proofs.lemmas.Bool.{cases_Bool, both_ways, false≢true, true≢false, lt-ltb, ltb-true, and_from, and_parts}
+use Rattle.std.proofs.Common.{◌≡◌, ℕ, ◌<◌, ◌≤◌, Bool, true, false, cond, ltb, [], ◌∷◌, sym, refl, ap, ◌∙◌, subst, inl, inr, ⊎_elim, arith}
+use Rattle.std.proofs.lemmas.Bool.{cases_Bool, both_ways, lt-ltb, and_from}
 use Rattle.wiring.specs.Topologies.{Topology, channels}
-use Rattle.plan_check.specs.Cycles.{Deps, Linked, Cycle, has, acyclic}
+use Rattle.plan_check.specs.Cycles.{Cycle, acyclic}
 use Rattle.plan_check.specs.Marks.{Follows}
 use Rattle.plan_check.proofs.CycleLaws.{Has, Leads, has_here, has_later, linked_map, cycle_map, cycle_one_more, acyclic_no_cycle, acyclic_if_no_cycle}
 use Rattle.marks.specs.declared.kinds.Mark.{Mark}

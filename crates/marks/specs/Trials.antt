@@ -1,7 +1,7 @@
 -- What a trial of a dependency answers and leaves, as a function of the marks.
 use Rattle.std.specs.Prelude.{◌≡◌, ℕ, Bool, true, false, cond, ◌&&◌, List, [], ◌∷◌, ◌++◌, ◌==◌}
 use Rattle.wiring.specs.Topologies.{Topology, from, into, all_channels}
-use Rattle.plan_check.specs.Cycles.{Deps, has, acyclic}
+use Rattle.plan_check.specs.Cycles.{Deps, acyclic}
 use Rattle.marks.specs.declared.kinds.Mark.{Mark}
 use Rattle.marks.specs.declared.kinds.Mark.TheVariants.{Unused, Used, Blocked}
 use Rattle.marks.specs.Marked.{View, with_mark, is_used}

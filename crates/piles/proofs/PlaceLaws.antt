@@ -1,5 +1,5 @@
 -- A call refused below is refused above, at the number that was put to the top.
-use Rattle.std.proofs.Common.{◌≡◌, ℕ, Bool, true, false, not, ◌&&◌, ltb, Ok, Err, Result, sym, refl, ap, ◌∙◌, ap₂}
+use Rattle.std.proofs.Common.{◌≡◌, ℕ, Bool, true, false, not, ltb, Ok, Err, Result, sym, refl, ap, ◌∙◌, ap₂}
 use Rattle.fault.specs.declared.faults.Fault.{Fault}
 use Rattle.fault.specs.declared.faults.Fault.TheVariants.{NotSeated, NoSuchDestination, GateOpen, NotOwn, NoSuchLayer}
 use Rattle.wiring.specs.Lists.{only_if, after}

@@ -1,8 +1,8 @@
 -- Slot maps.
-use Rattle.std.proofs.Common.{◌≡◌, ℕ, zero, suc, ◌+◌, ◌<◌, ◌≤◌, Bool, true, false, ltb, ◌⊎◌, List, length, get_or, set, replicate, sym, refl, ap, ◌∙◌, inl, inr, ⊎_elim, arith, below_more}
+use Rattle.std.proofs.Common.{◌≡◌, ℕ, zero, suc, ◌+◌, ◌<◌, ◌≤◌, Bool, true, false, ◌⊎◌, List, length, get_or, set, replicate, sym, refl, ap, ◌∙◌, inl, inr, ⊎_elim, arith, below_more}
 use Rattle.std.proofs.lemmas.List.{get_or-set_same, get_or-set_other}
 use Rattle.std.proofs.lemmas.Bool.{lt-ltb, cases_eq, both_ways}
-use Rattle.bank.specs.Banks.{View, seated_answer}
+use Rattle.bank.specs.Banks.{View}
 use Rattle.piles.specs.Slots.{Small, Apart, slot_view}
 use Rattle.piles.proofs.PlaceLaws.{Is}
 

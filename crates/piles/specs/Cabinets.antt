@@ -1,5 +1,5 @@
 -- Two banks joined into one.
-use Rattle.std.specs.Prelude.{ℕ, ◌-◌, Bool, false, cond, nat_lt}
+use Rattle.std.specs.Prelude.{ℕ, ◌-◌, false, cond, nat_lt}
 use Rattle.bank.specs.Banks.{View}
 use Rattle.wiring.specs.declared.table.Cell.TheVariants.{Empty}
 

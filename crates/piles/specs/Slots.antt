@@ -1,5 +1,5 @@
 -- Slot maps, and the bank that stands behind one.
-use Rattle.std.specs.Prelude.{◌≡◌, ℕ, ◌<◌, Bool, false, cond, List, ◌==◌, nat_lt, slice_index}
+use Rattle.std.specs.Prelude.{◌≡◌, ℕ, ◌<◌, false, cond, List, ◌==◌, nat_lt, slice_index}
 use Rattle.fault.specs.declared.faults.Fault.{Fault}
 use Rattle.fault.specs.declared.faults.Fault.TheVariants.{NotSeated, GateOpen, NotOwn}
 use Rattle.fault.specs.Faults.{entry}

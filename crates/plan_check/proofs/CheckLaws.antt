@@ -2,13 +2,12 @@
 use Rattle.std.proofs.Common.{◌≡◌, ℕ, ◌+◌, ◌/◌, ◌%◌, ◌<◌, ◌≤◌, Bool, true, false, cond, eqb, ltb, ◌⊎◌, [], ◌∷◌, Some, None, Option, sym, refl, ap, ◌∙◌, subst, ap₂, inl, inr, ⊎_elim, arith}
 use Rattle.std.proofs.lemmas.List.{get_or_past}
 use Rattle.std.proofs.lemmas.Bool.{and_parts, eqb-true, eqb-false, eq-eqb, ne_eqb, ltb-true, cases_lt, false≢true}
-use Rattle.std.proofs.lemmas.Bool.Decides.{nat_tests}
 use Rattle.fault.specs.declared.faults.Fault.{Fault}
 use Rattle.fault.specs.declared.faults.Fault.TheVariants.{StartsElsewhere, LayerTooHigh, LayerDiffers, Cycle as CycleFault}
 use Rattle.wiring.specs.Lists.{range, first_some, fold, or_else}
 use Rattle.wiring.proofs.SoundnessLaws.{neither}
 use Rattle.wiring.proofs.TopologyLaws.{inside_of, into_inside}
-use Rattle.wiring.specs.Topologies.{Topology, Valid, channels, partner, from, into, starts, all_nodes}
+use Rattle.wiring.specs.Topologies.{Topology, Valid, channels, from, into, starts, all_nodes}
 use Rattle.plan_check.specs.Cycles.{Deps, acyclic}
 use Rattle.wiring.specs.declared.table.Cell.{Cell}
 use Rattle.wiring.specs.declared.table.Cell.TheVariants.{Empty, Hop}

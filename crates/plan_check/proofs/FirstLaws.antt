@@ -1,12 +1,12 @@
 -- The first thing found along a range.
-use Rattle.std.proofs.Common.{◌≡◌, ℕ, zero, suc, ◌+◌, ◌<◌, ◌≤◌, true, false, not, Some, None, Option, sym, refl, ap, ◌∙◌, subst, inl, inr, ⊎_elim, arith}
+use Rattle.std.proofs.Common.{◌≡◌, ℕ, zero, suc, ◌+◌, ◌<◌, ◌≤◌, true, false, not, Some, None, Option, sym, ap, ◌∙◌, ⊎_elim, arith}
 use Rattle.std.proofs.lemmas.Bool.{cases_eq, not-true, not-false}
 use Rattle.wiring.specs.Lists.{range, first_some}
 use Rattle.plan_check.proofs.SearchedLaws.{none_found, all_none}
 use Rattle.fault.specs.declared.faults.Fault.{Fault}
 use Rattle.fault.specs.declared.faults.Fault.TheVariants.{Cycle as CycleFault}
 use Rattle.wiring.specs.Topologies.{Topology, all_nodes}
-use Rattle.plan_check.specs.Rules.{cell_fault, layer_fault, deps_in, verdict}
+use Rattle.plan_check.specs.Rules.{cell_fault, layer_fault, deps_in}
 use Rattle.wiring.specs.Tables.{Table}
 use Rattle.plan_check.specs.Cycles.{acyclic}
 use Rattle.plan_check.specs.Rules.{first_fault}

@@ -11,7 +11,7 @@ use Rattle.plan_check.specs.Cycles.{Deps, has}
 use Rattle.plan_check.specs.Rules.{Sound, layer_of, dep_at, deps_of}
 use Rattle.plan_check.specs.Marks.{mark, Follows, Noted}
 use Rattle.plan_check.proofs.CycleLaws.{Has, has_cases}
-use Rattle.plan_check.proofs.CheckLaws.{Onward, onward_from, same_hop}
+use Rattle.plan_check.proofs.CheckLaws.{onward_from, same_hop}
 
 -- ---- one dependency
 

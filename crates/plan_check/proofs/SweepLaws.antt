@@ -1,13 +1,13 @@
 -- Channels that depend on nothing that is left are taken away: what is gone is on no cycle, and where nothing more can go, what is
 -- left has one.
-use Rattle.std.proofs.Common.{◌≡◌, ℕ, zero, suc, ◌+◌, ◌*◌, ◌<◌, ◌≤◌, Bool, true, false, cond, not, List, [], ◌∷◌, length, get_or, set, replicate, count_by, sym, refl, ap, ◌∙◌, subst, ⊎_elim, arith, below_more}
+use Rattle.std.proofs.Common.{◌≡◌, ℕ, zero, suc, ◌+◌, ◌<◌, ◌≤◌, Bool, true, false, cond, not, List, [], ◌∷◌, length, get_or, set, replicate, count_by, sym, refl, ap, ◌∙◌, subst, ⊎_elim, arith, below_more}
 use Rattle.std.proofs.lemmas.List.Sums.{sum_by-set}
 use Rattle.std.proofs.ByRecursion.{All-get_or}
 use Rattle.std.proofs.lemmas.List.{get_or-set_same, get_or-set_other}
 use Rattle.std.proofs.lemmas.Bool.{cases_eq, false≢true, true≢false}
 use Rattle.wiring.specs.Topologies.{Topology, channels, from, into}
 use Rattle.wiring.specs.Owned.{own, Owns}
-use Rattle.plan_check.specs.Cycles.{Deps, has, acyclic, Linked}
+use Rattle.plan_check.specs.Cycles.{Deps, acyclic, Linked}
 use Rattle.plan_check.specs.Marks.{mark, is_gone, Noted, Held, HeldAmong, FreeAmong, Stuck, Left, Grounded, Swept}
 use Rattle.plan_check.proofs.CycleLaws.{Has, acyclic_if_no_cycle, depth, depth_falls}
 use Rattle.plan_check.proofs.NotingLaws.{all_false}

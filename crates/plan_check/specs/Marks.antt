@@ -1,5 +1,5 @@
 -- Dependencies as marks in a square of 240 on a side, and channels that are gone.
-use Rattle.std.specs.Prelude.{◌≡◌, ℕ, ◌+◌, ◌*◌, ◌<◌, ◌≤◌, Bool, true, false, not, List, ◌∷◌, length, Some, None, count_by, Option, slice_index, slice_index_or}
+use Rattle.std.specs.Prelude.{◌≡◌, ℕ, ◌+◌, ◌*◌, ◌<◌, Bool, true, false, not, List, ◌∷◌, length, Some, None, count_by, Option, slice_index, slice_index_or}
 use Rattle.wiring.specs.Topologies.{Topology, channels, from, into}
 use Rattle.plan_check.specs.Cycles.{Deps, Linked, has}
 use Rattle.plan_check.specs.declared.noting.Dependency.{Dependency}

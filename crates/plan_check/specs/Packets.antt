@@ -1,7 +1,6 @@
 -- Stalled packets, and that no set of them waits in a circle.
-use Rattle.std.specs.Prelude.{◌≡◌, ℕ, zero, suc, ◌<◌, List, [], ◌∷◌, ◌++◌, length, ◌≢◌, slice_index_or}
-use Rattle.wiring.specs.Topologies.{Topology, from, into}
-use Rattle.wiring.specs.declared.table.Cell.{Cell}
+use Rattle.std.specs.Prelude.{◌≡◌, ℕ, ◌<◌, List, [], ◌∷◌, ◌++◌, length, ◌≢◌, slice_index_or}
+use Rattle.wiring.specs.Topologies.{Topology, into}
 use Rattle.wiring.specs.declared.table.Cell.TheVariants.{Hop}
 use Rattle.wiring.specs.Tables.{Table}
 use Rattle.plan_check.specs.Rules.{layer_of}

@@ -1,10 +1,8 @@
 -- Routes along the cells.
-use Rattle.std.specs.Prelude.{◌≡◌, ℕ, zero, suc, ◌<◌, List, [], ◌∷◌, ◌≢◌}
+use Rattle.std.specs.Prelude.{◌≡◌, ℕ, ◌<◌, List, [], ◌∷◌, ◌≢◌}
 use Rattle.wiring.specs.Topologies.{Topology, from, into}
-use Rattle.wiring.specs.declared.table.Cell.{Cell}
 use Rattle.wiring.specs.declared.table.Cell.TheVariants.{Hop}
 use Rattle.wiring.specs.Tables.{Table}
-use Rattle.plan_check.specs.Rules.{Passes}
 
 -- a route to d: from n along the channels listed, by the cells for d
 pub data Route (w : Topology) (t : Table) (d : ℕ) : ℕ → List ℕ → Type 0 where

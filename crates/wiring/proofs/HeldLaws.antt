@@ -1,10 +1,9 @@
 -- What a wiring's record says of the wiring.
-use Rattle.std.proofs.Common.{◌≡◌, ℕ, suc, ◌+◌, ◌*◌, ◌/◌, ◌%◌, ◌<◌, ◌≤◌, Bool, true, false, cond, eqb, ltb, List, [], ◌∷◌, map, length, get_or, take, is_some, Some, None, Option, sym, refl, ap, ◌∙◌, subst, arith}
+use Rattle.std.proofs.Common.{◌≡◌, ℕ, ◌/◌, ◌%◌, ◌<◌, ◌≤◌, Bool, true, false, cond, eqb, length, get_or, take, is_some, Some, None, Option, sym, refl, ap, ◌∙◌, arith}
 use Rattle.std.proofs.lemmas.List.{length-map, length-take-le, get_or-map, get_or-take, get_or_past}
 use Rattle.std.proofs.lemmas.Bool.Decides.{nat_tests}
-use Rattle.wiring.specs.declared.links.Link.{Link}
 use Rattle.wiring.specs.declared.wirings.Wiring.{Wiring}
-use Rattle.wiring.specs.Topologies.{Topology, Valid, channels, partner, end_of, from, into}
+use Rattle.wiring.specs.Topologies.{Valid, partner, end_of, from, into}
 use Rattle.wiring.specs.Links.{ends_of, no_link}
 use Rattle.wiring.specs.Wirings.{topology}
 use Rattle.wiring.specs.Soundness.{topology_fault}

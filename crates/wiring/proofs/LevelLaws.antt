@@ -3,7 +3,7 @@ use Rattle.std.proofs.Common.{◌≡◌, ℕ, zero, suc, ◌+◌, ◌<◌, ◌�
 use Rattle.std.proofs.lemmas.List.{length-set, length-replicate, get_or-set_same, get_or-set_other, get_or_past}
 use Rattle.std.proofs.lemmas.Bool.Decides.{nat_tests}
 use Rattle.std.proofs.lemmas.Bool.{cases_eq, cases_lt, and_parts, eqb-true}
-use Rattle.wiring.specs.Topologies.{Topology, channels, from, into, all_channels, all_nodes, Walk, arrived, along, Joined, Valid}
+use Rattle.wiring.specs.Topologies.{Topology, channels, from, into, Walk, arrived, along, Joined, Valid}
 use Rattle.wiring.specs.Levels.{level_step, level_round, levels}
 use Rattle.wiring.proofs.TopologyLaws.{none_some, Inside, inside_of, fold_range, joined_to}
 

@@ -1,16 +1,16 @@
 -- The levels below a root, in room for 64.
-use Rattle.std.proofs.Common.{◌≡◌, ℕ, ◌-◌, ◌<◌, ◌≤◌, List, [], ◌∷◌, ◌++◌, map, length, get_or, drop, replicate, Some, None, Option, sym, refl, ap, ◌∙◌, subst, arith}
+use Rattle.std.proofs.Common.{◌≡◌, ℕ, ◌-◌, List, ◌++◌, map, length, drop, replicate, Some, None, Option, sym, ap, ◌∙◌, arith}
 use borrow.Rule.Slice.PartMut.{post_of}
-use Rattle.std.proofs.lemmas.List.{drop-replicate, get_or_append_left, length-map}
+use Rattle.std.proofs.lemmas.List.{drop-replicate, get_or_append_left}
 use Rattle.wiring.specs.declared.links.Link.{Link}
 use Rattle.wiring.specs.declared.wirings.Wiring.{Wiring}
 use Rattle.wiring.specs.Links.{ends_of, fresh, drawn, EndsWithin}
-use Rattle.wiring.specs.Levels.{levels, padded, LeastLevel, LevelsLeast}
+use Rattle.wiring.specs.Levels.{levels, padded, LevelsLeast}
 use Rattle.wiring.specs.Soundness.{bad_link, topology_fault}
 use Rattle.wiring.specs.Topologies.{Topology, Valid}
 use Rattle.wiring.specs.Wirings.{topology}
-use Rattle.wiring.proofs.HeldLaws.{untold, valid}
-use Rattle.wiring.proofs.LevelLaws.{level_of, level_least, level_walk, levels_leveled, levels_long}
+use Rattle.wiring.proofs.HeldLaws.{untold}
+use Rattle.wiring.proofs.LevelLaws.{level_of, level_least, level_walk, levels_leveled}
 use Rattle.wiring.proofs.MakingLaws.{ends_within, same_ends}
 use Rattle.wiring.proofs.SoundnessLaws.{links_sound}
 

@@ -1,13 +1,13 @@
 -- The channels into a node are the partners of its own channels, in the same order.
-use Rattle.std.proofs.Common.{◌≡◌, ℕ, zero, suc, ◌+◌, ◌*◌, ◌<◌, ◌≤◌, Bool, true, false, cond, not, ◌&&◌, eqb, List, [], ◌∷◌, map, length, get_or, set, filter, sym, refl, ap, ◌∙◌, subst, ap₂, arith}
+use Rattle.std.proofs.Common.{◌≡◌, ℕ, zero, suc, ◌+◌, ◌*◌, ◌<◌, ◌≤◌, Bool, true, false, cond, eqb, List, [], ◌∷◌, map, length, filter, sym, refl, ap, ◌∙◌, subst, ap₂, arith}
 use Rattle.std.specs.List.{AllByRecursion}
-use Rattle.std.proofs.lemmas.Bool.{eqb-true, eqb-false, and_parts, cond_both}
+use Rattle.std.proofs.lemmas.Bool.{eqb-true, eqb-false, cond_both}
 use Rattle.std.proofs.lemmas.Bool.Decides.{nat_tests}
 use Rattle.wiring.specs.Lists.{range, fold}
 use Rattle.wiring.specs.Topologies.{Topology, Valid, channels, all_channels, partner, from, into}
 use Rattle.wiring.specs.Owned.{own, inward, Ascends}
 use Rattle.std.proofs.ByRecursion.{All-weaker, all_kept_by, kept_by_passes}
-use Rattle.wiring.proofs.TopologyLaws.{range_below, partner_partner}
+use Rattle.wiring.proofs.TopologyLaws.{range_below}
 
 -- a fold may leave out what its step passes over
 pub fold_kept : {S X : Type 0} (p : X → Bool) (f : S → X → S) → ((s : S) (x : X) → p x ≡ false → f s x ≡ s) → (xs : List X) (s : S) → fold f s xs ≡ fold f s (filter p xs)

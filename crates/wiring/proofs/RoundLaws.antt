@@ -1,9 +1,8 @@
 -- The rounds of the levels, link by link and node by node.
-use Rattle.std.proofs.Common.{◌≡◌, ℕ, zero, suc, ◌+◌, ◌-◌, ◌*◌, ◌/◌, ◌%◌, ◌<◌, ◌≤◌, Bool, true, false, List, [], ◌∷◌, map, length, get_or, take, replicate, Some, None, Option, sym, refl, ap, ◌∙◌, subst, ap₂, arith}
+use Rattle.std.proofs.Common.{◌≡◌, ℕ, suc, ◌+◌, ◌-◌, ◌*◌, ◌/◌, ◌%◌, ◌<◌, ◌≤◌, Bool, true, false, List, [], ◌∷◌, map, length, get_or, take, replicate, Some, None, Option, ap, ◌∙◌, ap₂, arith}
 use Rattle.std.proofs.lemmas.List.{get_or-map, length-map, take-replicate}
 use Rattle.wiring.specs.declared.links.Link.{Link}
 use Rattle.wiring.specs.Lists.{range, fold, first_that}
-use Rattle.wiring.specs.Topologies.{Topology, from, into}
 use Rattle.wiring.specs.Levels.{spread, level_step, level_round}
 use Rattle.wiring.specs.Links.{ends_of, no_link, drawn}
 use Rattle.wiring.proofs.SoundnessLaws.{from_even, from_odd, into_even, into_odd, link_of}

@@ -4,11 +4,11 @@ use Rattle.std.specs.Option.{option_map}
 use Rattle.std.proofs.lemmas.Bool.{eqb-false, ne_eqb, eq-eqb, and_parts, cases_eq, not-true, cond-true, cond-false, ltb-true, leb-true, le-leb, cases_Bool}
 use Rattle.fault.specs.declared.faults.Fault.{Fault}
 use Rattle.fault.specs.declared.faults.Fault.TheVariants.{BodySize, NodeCount, LayerCount, LinkEnds, Unjoined}
-use Rattle.wiring.specs.Lists.{first_that, range, when_not, or_else}
-use Rattle.wiring.specs.Topologies.{Topology, Joined, Valid, channels, from, into, all_nodes}
+use Rattle.wiring.specs.Lists.{when_not, or_else}
+use Rattle.wiring.specs.Topologies.{Topology, Joined, Valid, channels, from, into}
 use Rattle.wiring.specs.Levels.{levels}
 use Rattle.wiring.specs.Soundness.{among, fine_link, bad_link, unjoined, topology_fault, LowestUnjoined}
-use Rattle.wiring.proofs.TopologyLaws.{Inside, First, first_that_some, first_found, none_some}
+use Rattle.wiring.proofs.TopologyLaws.{Inside, first_that_some, first_found, none_some}
 use Rattle.wiring.proofs.LevelLaws.{none_unjoined, some_joined}
 
 -- tests in a row find nothing exactly where each passes

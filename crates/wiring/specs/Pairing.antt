@@ -1,6 +1,6 @@
 -- A channel and its partner.
 use Rattle.std.specs.Prelude.{◌≡◌, ℕ, ◌<◌, Some, None, Option}
-use Rattle.wiring.specs.Topologies.{partner, partner_answer}
+use Rattle.wiring.specs.Topologies.{partner_answer}
 
 -- the partner is a channel whose partner is the channel
 abbrev pub Paired : ℕ → Option ℕ → Type 0

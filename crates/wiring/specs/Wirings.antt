@@ -1,5 +1,5 @@
 -- What a wiring stands for.
-use Rattle.std.specs.Prelude.{List, take, Ok, Err, Result}
+use Rattle.std.specs.Prelude.{take, Ok, Err, Result}
 use Rattle.fault.specs.declared.faults.Fault.{Fault}
 use Rattle.wiring.specs.declared.wirings.Wiring.{Wiring}
 use Rattle.wiring.specs.Topologies.{Topology}

@@ -1,4 +1,4 @@
-use Rattle.std.proofs.Common.{◌<◌, ◌≤◌, ◌≢◌, length, arith, rules, below_more}
+use Rattle.std.proofs.Common.{◌<◌, ◌≢◌, length, arith, below_more}
 use Rattle.std.proofs.lemmas.List.{length-set, get_or-set_same, get_or-set_other}
 use Rattle.marks.specs.declared.kinds.Mark.TheVariants.{Unused}
 use Rattle.marks.proofs.MarkedLaws.{all_unused}

@@ -1,8 +1,6 @@
-use Rattle.std.proofs.Common.{◌≡◌, ℕ, ◌+◌, ◌-◌, ◌<◌, Bool, not, get_or, count_by, sym, refl, ap, ◌∙◌, subst, arith, rules}
+use Rattle.std.proofs.Common.{◌≡◌, not, get_or, count_by, ap, ◌∙◌, arith}
 use Rattle.std.proofs.lemmas.Bool.{both_ways, false≢true}
-use Rattle.wiring.specs.Networks.{net}
-use Rattle.marks.specs.Marked.{mark_in}
-use Rattle.marks.specs.Searches.{Next, unseen}
+use Rattle.marks.specs.Searches.{unseen}
 use Rattle.marks.proofs.SearchLaws.{taken_none, taken_some, known_begin, known_step, known_end}
 use Rattle.marks.proofs.searching.closes_cycle.Goals as goal
 

@@ -1,9 +1,4 @@
-use Rattle.std.proofs.Common.{◌≡◌, ◌+◌, ◌*◌, List, set, sym, subst, rules}
-use Rattle.wiring.specs.Networks.{net}
-use Rattle.marks.specs.declared.kinds.Mark.{Mark}
-use Rattle.marks.specs.declared.kinds.Mark.TheVariants.{Unused, Used}
-use Rattle.marks.specs.Marked.{mark_in}
-use Rattle.marks.specs.Searches.{Next, Reach}
+use Rattle.std.proofs.Common.{◌+◌, ◌*◌, rules}
 use Rattle.marks.proofs.MarkedLaws.{put_back}
 use Rattle.marks.proofs.trying.use_unless_closing.Goals as goal
 

@@ -1,5 +1,4 @@
 use Rattle.std.proofs.Common.{◌≡◌, ℕ, ◌+◌, ◌-◌, List, set, Some, Option, sym, ap, ◌∙◌, arith}
-use Rattle.std.proofs.lemmas.List.{length-set}
 use Rattle.wiring.specs.Lists.{range, fold}
 use Rattle.wiring.specs.Levels.{level_round}
 use Rattle.wiring.specs.Links.{drawn}

@@ -1,4 +1,4 @@
-use Rattle.std.proofs.Common.{◌≡◌, ℕ, ◌+◌, ◌-◌, ◌*◌, List, length, get_or, Option, sym, ap, ◌∙◌, arith}
+use Rattle.std.proofs.Common.{ℕ, ◌+◌, ◌-◌, ◌*◌, List, length, get_or, Option, sym, ap, ◌∙◌}
 use Rattle.wiring.specs.Lists.{range, fold}
 use Rattle.wiring.specs.Levels.{level_step}
 use Rattle.wiring.specs.Links.{drawn, no_link}

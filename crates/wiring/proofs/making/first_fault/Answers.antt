@@ -1,4 +1,4 @@
-use Rattle.std.proofs.Common.{Some, None, sym, arith}
+use Rattle.std.proofs.Common.{Some, None, sym}
 use Rattle.std.proofs.lemmas.Bool.{leb-true, leb-false}
 use Rattle.wiring.proofs.SoundnessLaws.{among_parts}
 use Rattle.wiring.proofs.MakingLaws.{told_many, told_nodes, told_layers, told_link, told_rest, ends_within}

@@ -1,4 +1,4 @@
-use Rattle.std.proofs.Common.{◌≡◌, ◌<◌, sym, ap, ◌∙◌, arith, rules}
+use Rattle.std.proofs.Common.{◌≡◌, ◌<◌, sym, ap, ◌∙◌, arith}
 use Rattle.wiring.specs.Topologies.{channels}
 use Rattle.wiring.specs.Networks.{net}
 use Rattle.wiring.proofs.LaidLaws.{few_channels}

@@ -1,4 +1,4 @@
-use Rattle.std.proofs.Common.{◌+◌, ◌<◌, ◌≤◌, true, false, not, length, set, count_by, refl, ◌∙◌, arith, rules}
+use Rattle.std.proofs.Common.{◌+◌, ◌≤◌, true, false, not, set, count_by, refl, ◌∙◌, arith}
 use Rattle.std.proofs.lemmas.List.{length-set, get_or-set_same}
 use Rattle.marks.proofs.SearchLaws.{unseen_set, grown_one}
 use Rattle.marks.proofs.visits.Visits.add.Goals as goal

@@ -1,4 +1,4 @@
-use Rattle.std.proofs.Common.{true, false, replicate, refl, ◌∙◌, rules}
+use Rattle.std.proofs.Common.{true, false, replicate, refl, ◌∙◌}
 use Rattle.std.proofs.lemmas.List.{length-set, length-replicate}
 use Rattle.marks.proofs.SearchLaws.{room_begun}
 use Rattle.marks.proofs.visits.Visits.begin.Goals as goal

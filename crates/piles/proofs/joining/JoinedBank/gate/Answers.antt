@@ -1,5 +1,4 @@
 use Rattle.std.proofs.Common.{Err, ap, ◌∙◌}
-use Rattle.bank.specs.Banks.{View}
 use Rattle.piles.specs.Cabinets.{joined_view}
 use Rattle.piles.proofs.PlaceLaws.{gate_lifts, refused_above}
 use Rattle.piles.proofs.CabinetLaws.{second_is}

@@ -1,5 +1,4 @@
 use Rattle.std.proofs.Common.{Err, ap, ◌∙◌}
-use Rattle.fault.specs.declared.faults.Fault.{Fault}
 use Rattle.piles.specs.Slots.{slot_view}
 use Rattle.piles.proofs.PlaceLaws.{gate_lifts, refused_above}
 use Rattle.piles.proofs.SlotLaws.{slot_is}

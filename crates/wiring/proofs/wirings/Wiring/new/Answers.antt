@@ -1,6 +1,6 @@
-use Rattle.std.proofs.Common.{Some, None, sym, ap, ◌∙◌, subst, arith}
+use Rattle.std.proofs.Common.{Some, sym, ap, ◌∙◌, subst, arith}
 use Rattle.wiring.specs.Links.{drawn}
-use Rattle.wiring.specs.Topologies.{Topology, Valid}
+use Rattle.wiring.specs.Topologies.{Valid}
 use Rattle.wiring.specs.Soundness.{topology_fault}
 use Rattle.wiring.proofs.SoundnessLaws.{sound_valid, told_unjoined}
 use Rattle.wiring.proofs.MakingLaws.{held_fresh, held_pairs, held_drawn, answer_none, answer_some, few_of, quiet}
