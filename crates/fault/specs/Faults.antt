@@ -1,5 +1,5 @@
 -- Every fault with its number, its place and the part that it belongs to, and what the display shows of it.
-use Rattle.std.specs.Prelude.{ℕ, List, ◌∷◌, ◌++◌, decimal}
+use Rattle.std.specs.Prelude.{ℕ, List, ◌∷◌, ◌++◌, decimal, Option, Some, None, Result, Ok, Err}
 use Rattle.fault.specs.declared.faults.Part.{Part}
 use Rattle.fault.specs.declared.faults.Part.TheVariants.{Sheet, Rack, Check, Card}
 use Rattle.fault.specs.declared.faults.Place.{Place}
@@ -52,3 +52,8 @@ shown_place (Two a b) = decimal a ++ (32 ∷ decimal b)
 
 abbrev pub shown_fault : Fault → List ℕ
 shown_fault f = decimal (entry f).number ++ (32 ∷ shown_place (entry f).place)
+
+-- what a test answers by the fault that it finds, or that it finds none
+abbrev pub judged : Option Fault → Result (Unit {0}) Fault
+judged None = Ok tt
+judged (Some f) = Err f

@@ -2,6 +2,7 @@
 ghost use Rattle.std.specs.Prelude.{◌≡◌, Some};
 ghost use Rattle.fault.specs.Faults.{entry, shown_fault, shown_place};
 
+use std::error::Error;
 use std::fmt;
 
 /// The part of the product that a fault belongs to.
@@ -21,7 +22,7 @@ pub enum Place {
 }
 
 /// What is wrong, with the values that say where. `specs/Faults.antt` gives each case its number, place and part.
-#[derive(Clone, Copy)]
+#[derive(Clone, Copy, PartialEq, Eq, Debug)]
 pub enum Fault {
     /// The count of contents lines is missing or wrong, or the contents are cut short.
     Contents,
@@ -88,50 +89,32 @@ impl Fault {
     {
         match *self {
             Fault::Contents => 1,
-            Fault::Letter { line: _ } => 2,
-            Fault::BodyPlace { line: _ } => 3,
-            Fault::BodySize { line: _ } => 4,
+            Fault::Letter { .. } => 2,
+            Fault::BodyPlace { .. } => 3,
+            Fault::BodySize { .. } => 4,
             Fault::NodeCount => 5,
             Fault::LayerCount => 6,
-            Fault::LinkEnds { link: _ } => 7,
-            Fault::Unjoined { node: _ } => 8,
+            Fault::LinkEnds { .. } => 7,
+            Fault::Unjoined { .. } => 8,
             Fault::PlanSize => 9,
             Fault::NodeCountDiffers => 10,
-            Fault::ShortMemory { need: _ } => 11,
-            Fault::NoSuchNode { node: _ } => 12,
-            Fault::CardMissing { node: _ } => 13,
-            Fault::OwnDiffers {
-                node: _,
-                channel: _,
-            } => 14,
+            Fault::ShortMemory { .. } => 11,
+            Fault::NoSuchNode { .. } => 12,
+            Fault::CardMissing { .. } => 13,
+            Fault::OwnDiffers { .. } => 14,
             Fault::WrongPhase => 15,
-            Fault::OwnCellFilled {
-                destination: _,
-                node: _,
-            } => 16,
-            Fault::CellEmpty {
-                destination: _,
-                node: _,
-            } => 17,
-            Fault::StartsElsewhere {
-                destination: _,
-                node: _,
-            } => 18,
-            Fault::LayerTooHigh {
-                destination: _,
-                node: _,
-            } => 19,
-            Fault::LayerDiffers {
-                destination: _,
-                node: _,
-            } => 20,
-            Fault::Cycle { layer: _ } => 21,
-            Fault::NotArrived { destination: _ } => 22,
-            Fault::NotSeated { node: _ } => 23,
-            Fault::NoSuchDestination { destination: _ } => 24,
-            Fault::GateOpen { node: _ } => 25,
-            Fault::NotOwn { node: _ } => 26,
-            Fault::NoSuchLayer { layer: _ } => 27,
+            Fault::OwnCellFilled { .. } => 16,
+            Fault::CellEmpty { .. } => 17,
+            Fault::StartsElsewhere { .. } => 18,
+            Fault::LayerTooHigh { .. } => 19,
+            Fault::LayerDiffers { .. } => 20,
+            Fault::Cycle { .. } => 21,
+            Fault::NotArrived { .. } => 22,
+            Fault::NotSeated { .. } => 23,
+            Fault::NoSuchDestination { .. } => 24,
+            Fault::GateOpen { .. } => 25,
+            Fault::NotOwn { .. } => 26,
+            Fault::NoSuchLayer { .. } => 27,
             Fault::BadMap => 28,
         }
     }
@@ -157,11 +140,11 @@ impl Fault {
                 Place::One(u16::from(destination)),
             Fault::Cycle { layer } | Fault::NoSuchLayer { layer } => Place::One(u16::from(layer)),
             Fault::OwnDiffers { node, channel } => Place::Two(node, channel),
-            Fault::OwnCellFilled { destination, node } => Place::Two(destination, node),
-            Fault::CellEmpty { destination, node } => Place::Two(destination, node),
-            Fault::StartsElsewhere { destination, node } => Place::Two(destination, node),
-            Fault::LayerTooHigh { destination, node } => Place::Two(destination, node),
-            Fault::LayerDiffers { destination, node } => Place::Two(destination, node),
+            Fault::OwnCellFilled { destination, node }
+            | Fault::CellEmpty { destination, node }
+            | Fault::StartsElsewhere { destination, node }
+            | Fault::LayerTooHigh { destination, node }
+            | Fault::LayerDiffers { destination, node } => Place::Two(destination, node),
         }
     }
 
@@ -169,11 +152,35 @@ impl Fault {
     pub fn part(&self) -> Part
         ensures { result ≡ (entry self.now).part }
     {
-        match self.number() {
-            0..=9 => Part::Sheet,
-            10..=15 | 22 => Part::Rack,
-            16..=21 => Part::Check,
-            _ => Part::Card,
+        match *self {
+            Fault::Contents
+            | Fault::Letter { .. }
+            | Fault::BodyPlace { .. }
+            | Fault::BodySize { .. }
+            | Fault::NodeCount
+            | Fault::LayerCount
+            | Fault::LinkEnds { .. }
+            | Fault::Unjoined { .. }
+            | Fault::PlanSize => Part::Sheet,
+            Fault::NodeCountDiffers
+            | Fault::ShortMemory { .. }
+            | Fault::NoSuchNode { .. }
+            | Fault::CardMissing { .. }
+            | Fault::OwnDiffers { .. }
+            | Fault::WrongPhase
+            | Fault::NotArrived { .. } => Part::Rack,
+            Fault::OwnCellFilled { .. }
+            | Fault::CellEmpty { .. }
+            | Fault::StartsElsewhere { .. }
+            | Fault::LayerTooHigh { .. }
+            | Fault::LayerDiffers { .. }
+            | Fault::Cycle { .. } => Part::Check,
+            Fault::NotSeated { .. }
+            | Fault::NoSuchDestination { .. }
+            | Fault::GateOpen { .. }
+            | Fault::NotOwn { .. }
+            | Fault::NoSuchLayer { .. }
+            | Fault::BadMap => Part::Card,
         }
     }
 }
@@ -200,9 +207,4 @@ impl fmt::Display for Fault {
     }
 }
 
-/// As on the display.
-impl fmt::Debug for Fault {
-    fn fmt<W: fmt::Write>(&self, f: &mut fmt::Formatter<W>) -> fmt::Result {
-        write!(f, "{self}")
-    }
-}
+impl Error for Fault {}

@@ -1,7 +1,8 @@
 -- The answer of the check, and what it says.
-use Rattle.std.specs.Prelude.{◌≡◌, ℕ, List, Some, None, Ok, Err, Option, Result, ◌==◌}
+use Rattle.std.specs.Prelude.{◌≡◌, ℕ, List, None, Ok, Result, ◌==◌}
 use Rattle.fault.specs.declared.faults.Fault.{Fault}
 use Rattle.fault.specs.declared.faults.Fault.TheVariants.{NodeCountDiffers}
+use Rattle.fault.specs.Faults.{judged}
 use Rattle.wiring.specs.Lists.{after, only_if}
 use Rattle.wiring.specs.Tables.{Table}
 use Rattle.wiring.specs.Topologies.{Topology, Valid}
@@ -13,10 +14,6 @@ use Rattle.plan_check.specs.Packets.{NoDeadlock}
 
 abbrev pub Judged : Type 0
 Judged = Result (Unit {0}) Fault
-
-abbrev pub judged : Option Fault → Judged
-judged None = Ok tt
-judged (Some f) = Err f
 
 -- cells are accepted exactly where they break no rule
 abbrev pub Exact : Topology → Table → Judged → Type 0

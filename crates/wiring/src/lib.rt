@@ -2,6 +2,7 @@
 #![tactic(auto)]
 
 mod channels;
+mod dependencies;
 mod joining;
 mod laying;
 mod leveling;
@@ -14,6 +15,7 @@ mod partners;
 mod table;
 mod wirings;
 
+pub use dependencies::Dependency;
 pub use links::Link;
 pub use networks::Network;
 pub use own::Ports;
