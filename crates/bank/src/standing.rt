@@ -13,9 +13,6 @@ impl<B: Bank> Cells for Standing<'_, B> {
     ghost meant = { λ s. standing (B.Bank.view s.bank.now) };
 
     fn cell(&self, destination: u8, node: u8) -> Cell {
-        match self.bank.cell(node, destination) {
-            Ok(cell) => cell,
-            Err(_) => Cell::Empty,
-        }
+        self.bank.cell(node, destination).unwrap_or(Cell::Empty)
     }
 }

@@ -1,9 +1,11 @@
 -- Ports.
-use Rattle.std.proofs.Common.{◌≡◌, ℕ, zero, suc, ◌+◌, ◌-◌, ◌<◌, ◌≤◌, Bool, true, false, cond, ◌&&◌, eqb, ltb, List, [], ◌∷◌, length, get_or, take, drop, is_some, Some, None, Option, sym, refl, ap, ◌∙◌, subst, add-one, arith}
+use Rattle.std.proofs.Common.{◌≡◌, ℕ, zero, suc, option_map, position, ◌==◌, ◌+◌, ◌-◌, ◌<◌, ◌≤◌, Bool, true, false, cond, ◌&&◌, eqb, ltb, List, [], ◌∷◌, length, get_or, take, drop, is_some, Some, None, Option, sym, refl, ap, ◌∙◌, subst, add-one, arith}
 use mathlib.Core.Path.{fun_ext}
+use Rattle.std.specs.List.{position_from}
+use Rattle.std.proofs.lemmas.Iterator.Adapters.{position_from-zero}
 use Rattle.std.proofs.ByRecursion.{All-get_or}
-use Rattle.std.proofs.lemmas.List.{at_drop_more, at_drop_all, length-take, length-drop}
-use Rattle.std.proofs.lemmas.Bool.{cond_both, eq-eqb, ne_eqb, eqb-true, and_from, and_parts, lt-ltb, ltb-true, both_ways}
+use Rattle.std.proofs.lemmas.List.{length-take, length-drop}
+use Rattle.std.proofs.lemmas.Bool.{cond_both, eq-eqb, eqb-true, and_from, and_parts, lt-ltb, ltb-true, both_ways}
 use Rattle.wiring.specs.declared.own.Ports.{Ports}
 use Rattle.wiring.specs.declared.table.Cell.{Cell}
 use Rattle.wiring.specs.declared.table.Cell.TheVariants.{Hop}
@@ -11,21 +13,23 @@ use Rattle.wiring.specs.Spans.{owned}
 use Rattle.wiring.specs.Owned.{own}
 use Rattle.wiring.specs.Topologies.{Topology, Valid, channels, from, starts}
 use Rattle.wiring.proofs.LaidLaws.{own_laws}
-use Rattle.cards.specs.declared.numbered.PortCell.{PortCell}
+use Rattle.cards.specs.declared.ports.PortCell.{PortCell}
 use Rattle.cards.specs.Decks.{changed, Holds}
 use Rattle.cards.specs.Porting.{port_from, port_of, meant_by, standing_by}
 
 -- ---- the search for a port
 
-module _ (es : List ℕ) (c i : ℕ) (l : i < length es) where
-  pub port_here : get_or es i 0 ≡ c → port_from i (drop i es) c ≡ Some (i + 1)
-  port_here e = at_drop_more (λ (xs : List ℕ). port_from i xs c) es i 0 l ∙ rw (eq-eqb (get_or es i 0) c e) (ap Some (sym (add-one i)))
+-- the port is the place, counted from 1
+port_placed : (c i : ℕ) (es : List ℕ) → port_from i es c ≡ option_map suc (position_from (λ x. x == c) i es)
+port_placed c i [] = refl
+port_placed c i (x ∷ xs) = at (x == c) (port_placed c (suc i) xs ∙ ap (λ j. option_map suc (position_from (λ x. x == c) j xs)) (sym (add-one i)))
+  where
+    at : (b : Bool) → port_from (suc i) xs c ≡ option_map suc (position_from (λ x. x == c) (i + 1) xs) → cond b (Some (suc i)) (port_from (suc i) xs c) ≡ option_map suc (cond b (Some i) (position_from (λ x. x == c) (i + 1) xs))
+    at true rest = refl
+    at false rest = rest
 
-  pub port_later : (get_or es i 0 ≡ c → ⊥) → port_from i (drop i es) c ≡ port_from (i + 1) (drop (i + 1) es) c
-  port_later ne = at_drop_more (λ (xs : List ℕ). port_from i xs c) es i 0 l ∙ rw (ne_eqb (get_or es i 0) c ne) (ap (λ j. port_from j (drop (i + 1) es) c) (sym (add-one i)))
-
-pub port_none : (es : List ℕ) (c i : ℕ) → length es ≤ i → port_from i (drop i es) c ≡ None
-port_none es c i l = at_drop_all (λ (xs : List ℕ). port_from i xs c) es i l
+pub port_is_place : (es : List ℕ) (c : ℕ) → port_of es c ≡ option_map suc (position (λ x. x == c) es)
+port_is_place es c = port_placed c 0 es ∙ ap (option_map suc) (sym (position_from-zero (λ x. x == c) es))
 
 -- a channel's port is its place
 found_from : (i : ℕ) (es : List ℕ) (c p : ℕ) → port_from i es c ≡ Some p → (k : ℕ) × (k < length es) × (get_or es k 0 ≡ c) × (p ≡ suc (i + k))
@@ -76,7 +80,7 @@ ported_own w ok n c = same_bool _ _ there back
 
 -- ---- one cell changed
 
-module _ (own : ℕ → List ℕ) (held : ℕ → ℕ → PortCell) (n d : ℕ) (kept : PortCell) (x : Cell) (is : meant_by (own n) kept ≡ x) where
+module _ (own : ℕ → List ℕ) (held : ℕ → ℕ → Option PortCell) (n d : ℕ) (kept : Option PortCell) (x : Cell) (is : meant_by (own n) kept ≡ x) where
   at : (m e : ℕ) → standing_by own (changed held n d kept) m e ≡ changed (standing_by own held) n d x m e
   at m e = go (eqb m n) (eqb e d) refl
     where

@@ -4,8 +4,8 @@ use Rattle.bank.specs.Banks.{View}
 use Rattle.wiring.specs.declared.table.Cell.TheVariants.{Empty}
 use Rattle.wiring.specs.Topologies.{Topology, starts}
 use Rattle.sheet.specs.Wirings.{read_wiring}
-use Rattle.cards.specs.declared.making.MakeError.{MakeError}
-use Rattle.cards.specs.declared.making.MakeError.TheVariants.{Refused, NoMemory}
+use Rattle.cards.specs.declared.errors.MakeError.{MakeError}
+use Rattle.cards.specs.declared.errors.MakeError.TheVariants.{Refused, NoMemory}
 
 -- a card for each node, with the channels that start there; gates shut, cells empty
 abbrev pub made_view : Topology → View

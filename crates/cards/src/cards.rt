@@ -1,6 +1,6 @@
 // Cards in memory are a bank.
 ghost use Rattle.std.specs.Prelude.{◌≡◌};
-ghost use Rattle.bank.specs.Banks.{View, clear_answer, seated_answer};
+ghost use Rattle.bank.specs.Banks.{View, clear_answer, seated_answer, set_answer};
 ghost use Rattle.cards.specs.Views.{cards_view};
 
 use crate::decks::Cards;
@@ -10,13 +10,22 @@ use fault::Fault;
 use wiring::Cell;
 
 impl<S: Store> Cards<S> {
+    /// Whether a card is seated.
+    fn find_card(&self, node: u8) -> Result<(), Fault>
+        ensures { result ≡ set_answer (cards_view self.now.nodes self.now.gates (S.Store.owned self.now.store) (S.Store.held self.now.store)) node }
+    {
+        if self.seated(node) {
+            Ok(())
+        } else {
+            Err(Fault::NotSeated { node })
+        }
+    }
+
     /// Whether a cell may be changed: a card is seated, it has the cell, and its gate is shut.
     fn may_change(&self, node: u8, destination: u8) -> Result<(), Fault>
         ensures { result ≡ clear_answer (cards_view self.now.nodes self.now.gates (S.Store.owned self.now.store) (S.Store.held self.now.store)) node destination }
     {
-        if node >= self.nodes {
-            return Err(Fault::NotSeated { node });
-        }
+        self.find_card(node)?;
         if destination >= 64 {
             return Err(Fault::NoSuchDestination { destination });
         }
@@ -39,16 +48,12 @@ impl<S: Store> Bank for Cards<S> {
     }
 
     fn gate(&self, node: u8) -> Result<bool, Fault> {
-        if node >= self.nodes {
-            return Err(Fault::NotSeated { node });
-        }
+        self.find_card(node)?;
         Ok(self.gates[node as usize])
     }
 
     fn cell(&self, node: u8, destination: u8) -> Result<Cell, Fault> {
-        if node >= self.nodes {
-            return Err(Fault::NotSeated { node });
-        }
+        self.find_card(node)?;
         if destination >= 64 {
             return Err(Fault::NoSuchDestination { destination });
         }
@@ -56,9 +61,7 @@ impl<S: Store> Bank for Cards<S> {
     }
 
     fn set_gate(&mut self, node: u8, open: bool) -> Result<(), Fault> {
-        if node >= self.nodes {
-            return Err(Fault::NotSeated { node });
-        }
+        self.find_card(node)?;
         self.gates[node as usize] = open;
         Ok(())
     }

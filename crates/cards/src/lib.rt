@@ -4,14 +4,23 @@
 mod cards;
 mod channels;
 mod decks;
-mod flat;
+mod errors;
+mod grids;
 mod making;
 mod numbered;
-mod ported;
+mod ports;
 mod stores;
 
 pub use channels::Channels;
 pub use decks::Cards;
-pub use making::{MakeError, flat_bank, port_cards};
-pub use numbered::{Numbered, PortCell};
+pub use errors::MakeError;
+pub use grids::Grid;
+pub use numbered::Numbered;
+pub use ports::PortCell;
 pub use stores::Store;
+
+/// Cards that keep channels.
+pub type FlatBank = Cards<Channels>;
+
+/// Cards that keep ports.
+pub type PortCards = Cards<Numbered>;

@@ -1,9 +1,11 @@
 // What the cards of a bank hold, in one form or another.
-ghost use Rattle.std.specs.Prelude.{◌≡◌, ℕ, ◌<◌, Bool, true};
+ghost use Rattle.std.specs.Prelude.{◌≡◌, ℕ, ◌<◌, Bool, true, IfOk};
 ghost use Rattle.wiring.specs.declared.table.Cell.{Cell as Held};
-ghost use Rattle.cards.specs.Decks.{changed, Holds};
+ghost use Rattle.wiring.specs.Wirings.{topology};
+ghost use Rattle.cards.specs.Decks.{changed, Holds, EmptyFor};
 
-use wiring::Cell;
+use std::alloc::{AllocError, Global};
+use wiring::{Cell, Wiring};
 
 /// The cells of 64 cards for 64 destinations, and each card's own channels.
 pub trait Store {
@@ -12,6 +14,10 @@ pub trait Store {
 
     /// The cell of a card for a destination.
     ghost held: { Self → ℕ → ℕ → Held };
+
+    /// A store for a wiring, every cell empty.
+    fn new(heap: Global, wiring: Wiring) -> Result<Self, AllocError>
+        ensures { IfOk result (λ s. EmptyFor (topology wiring) (owned s) (held s)) };
 
     /// Whether the channel is the card's own.
     fn owns(&self, node: u8, channel: u8) -> bool

@@ -1,15 +1,10 @@
 -- A call refused below is refused above, at the number that was put to the top.
-use Rattle.std.proofs.Common.{◌≡◌, ℕ, Bool, true, false, not, ltb, Ok, Err, Result, sym, refl, ap, ◌∙◌, ap₂}
+use Rattle.std.proofs.Common.{◌≡◌, ℕ, Bool, true, false, rules, not, ltb, Ok, Err, Result, refl, ap, ◌∙◌, ap₂}
 use Rattle.fault.specs.declared.faults.Fault.{Fault}
 use Rattle.fault.specs.declared.faults.Fault.TheVariants.{NotSeated, NoSuchDestination, GateOpen, NotOwn, NoSuchLayer}
 use Rattle.wiring.specs.Lists.{only_if, after}
-use Rattle.bank.specs.Banks.{View, Done, seated_answer, gate_answer, cell_answer, set_answer, clear_answer, put_answer, if_done}
-use Rattle.piles.specs.Slots.{told_at}
-
--- an answer from below, at the number n of the top
-abbrev pub lifted : {X : Type 0} → ℕ → Result X Fault → Result X Fault
-lifted n (Ok x) = Ok x
-lifted n (Err f) = Err (told_at f n)
+use Rattle.bank.specs.Banks.{View, Done, seated_answer, clear_answer, put_answer, if_done}
+use Rattle.piles.specs.Slots.{told_at, lifted}
 
 lift_only : {X : Type 0} (n : ℕ) (b : Bool) (f : Fault) (a : Result X Fault) → lifted n (only_if b f a) ≡ only_if b (told_at f n) (lifted n a)
 lift_only n true f a = refl
@@ -30,15 +25,6 @@ module _ (u v : View) (n m : ℕ) (is : Is u v n m) where
   first : {X : Type 0} (a b : Result X Fault) → lifted n a ≡ b → lifted n (only_if (seated_answer v m) (NotSeated m) a) ≡ only_if (seated_answer u n) (NotSeated n) b
   first {X} a b e = lift_only n (seated_answer v m) (NotSeated m) a ∙ ap₂ (λ (t : Bool) (r : Result X Fault). only_if t (NotSeated n) r) is.seated e
 
-  pub set_lifts : lifted n (set_answer v m) ≡ set_answer u n
-  set_lifts = first (Ok tt) (Ok tt) refl
-
-  pub gate_lifts : lifted n (gate_answer v m) ≡ gate_answer u n
-  gate_lifts = first (Ok (v.gate m)) (Ok (u.gate n)) (ap Ok is.gate)
-
-  pub cell_lifts : (d : ℕ) → lifted n (cell_answer v m d) ≡ cell_answer u n d
-  cell_lifts d = first _ _ (lift_only n (ltb d 64) (NoSuchDestination d) (Ok (v.cell m d)) ∙ ap (λ r. only_if (ltb d 64) (NoSuchDestination d) (Ok r)) (is.cell d))
-
   pub clear_lifts : (d : ℕ) → lifted n (clear_answer v m d) ≡ clear_answer u n d
   clear_lifts d = first _ _ (lift_only n (ltb d 64) (NoSuchDestination d) _ ∙ ap (λ (r : Done). only_if (ltb d 64) (NoSuchDestination d) r) (lift_only n (not (v.gate m)) (GateOpen m) (Ok tt) ∙ ap (λ t. only_if (not t) (GateOpen n) (Ok tt)) is.gate))
 
@@ -47,13 +33,14 @@ module _ (u v : View) (n m : ℕ) (is : Is u v n m) where
       lift_after n (clear_answer v m d) _
       ∙ ap₂ (λ (a b : Done). after a (λ _. b)) (clear_lifts d) (lift_only n (v.own m c) (NotOwn m) _ ∙ ap₂ (λ (t : Bool) (r : Done). only_if t (NotOwn n) r) (is.own c) (lift_only n (ltb l 8) (NoSuchLayer l) (Ok tt)))
 
--- so where it is refused below it is refused above, and leaves both as they were
-pub refused_above : {X : Type 0} (n : ℕ) (f : Fault) (a b : Result X Fault) → Err f ≡ a → lifted n a ≡ b → Err (told_at f n) ≡ b
-refused_above {X = X} n f a b e l = ap (lifted {X = X} n) e ∙ l
+-- a change below is one above: F is the bank above, by the one below
+pub changed_both : (F : View → View) (n : ℕ) (a b : Done) (v new new' : View) → lifted n a ≡ b → F new ≡ new' → F (if_done a new v) ≡ if_done b new' (F v)
+changed_both F n (Ok x) (Ok y) v new new' l e = e
+changed_both F n (Ok x) (Err f) v new new' l e = search rules
+changed_both F n (Err f) (Ok y) v new new' l e = search rules
+changed_both F n (Err f) (Err g) v new new' l e = refl
 
-stays : (a : Done) (f : Fault) (new old : View) → Err f ≡ a → if_done a new old ≡ old
-stays a f new old e = ap (λ (r : Done). if_done r new old) (sym e)
-
--- F is the bank above, by the one below
-pub refused_both : (F : View → View) (n : ℕ) (f : Fault) (a b : Done) (v v' new new' : View) → Err f ≡ a → lifted n a ≡ b → v' ≡ if_done a new v → F v' ≡ if_done b new' (F v)
-refused_both F n f a b v v' new new' e l q = ap F (q ∙ stays a f new v e) ∙ sym (stays b (told_at f n) new' (F v) (refused_above n f a b e l))
+-- what holds where a test lets an answer through
+pub let_through : {X : Type 0} (b : Bool) (f : Fault) (x y : X) → Ok x ≡ only_if b f (Ok y) → (b ≡ true) × (x ≡ y)
+let_through true f x y e = (refl, cc)
+let_through false f x y e = search rules

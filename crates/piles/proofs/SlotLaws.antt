@@ -1,10 +1,15 @@
 -- Slot maps.
-use Rattle.std.proofs.Common.{◌≡◌, ℕ, zero, suc, ◌+◌, ◌<◌, ◌≤◌, Bool, true, false, ◌⊎◌, List, length, get_or, set, replicate, sym, refl, ap, ◌∙◌, inl, inr, ⊎_elim, arith, below_more}
+use Rattle.std.proofs.Common.{◌≡◌, ℕ, zero, suc, ◌+◌, ◌<◌, ◌≤◌, Bool, true, false, cond, eqb, ltb, ◌&&◌, ◌⊎◌, List, length, get_or, set, replicate, Ok, sym, refl, ap, ◌∙◌, subst, inl, inr, ⊎_elim, arith, below_more}
 use Rattle.std.proofs.lemmas.List.{get_or-set_same, get_or-set_other}
-use Rattle.std.proofs.lemmas.Bool.{lt-ltb, cases_eq, both_ways}
-use Rattle.bank.specs.Banks.{View}
+use mathlib.Core.Path.{fun_ext}
+use Rattle.std.proofs.lemmas.Bool.{lt-ltb, le-ltb, ltb-true, eq-eqb, ne_eqb, cases_eq, cases_lt, both_ways}
+use Rattle.fault.specs.declared.faults.Fault.{Fault}
+use Rattle.wiring.specs.Lists.{only_if}
+use Rattle.wiring.specs.declared.table.Cell.{Cell}
+use Rattle.wiring.specs.declared.table.Cell.TheVariants.{Empty, Hop}
+use Rattle.bank.specs.Banks.{View, with_cell, clear_after, put_after}
 use Rattle.piles.specs.Slots.{Small, Apart, slot_view}
-use Rattle.piles.proofs.PlaceLaws.{Is}
+use Rattle.piles.proofs.PlaceLaws.{Is, clear_lifts, put_lifts, changed_both, let_through}
 
 pub slot_is : (xs : List ℕ) (v : View) (n : ℕ) → Small xs → n < 64 → Is (slot_view xs v) v n (get_or xs n 0)
 slot_is xs v n small h =
@@ -60,3 +65,29 @@ marked_none xs k = record {
 
 pub marked_all : (xs : List ℕ) (i : ℕ) (seen : List Bool) → 64 ≤ i → Marked xs i seen → Small xs × Apart xs
 marked_all xs i seen l h = ((λ k b. h.small k (omega arith)), λ k j p. h.apart k j (let a = p.0 in omega arith) (let b = p.1 in omega arith) p.2)
+
+-- a cell changed below is the one changed above
+pub slot_cell : (xs : List ℕ) (v : View) (n d : ℕ) (x : Cell) → Apart xs → n < 64 → slot_view xs (with_cell v (get_or xs n 0) d x) ≡ with_cell (slot_view xs v) n d x
+slot_cell xs v n d x apart h = ap (λ c. record { seated = (slot_view xs v).seated; own = (slot_view xs v).own; gate = (slot_view xs v).gate; cell = c }) (fun_ext (λ m. fun_ext (λ e. at m e (cases_lt m 64) (cases_eq m n))))
+  where
+    at : (m e : ℕ) → (m < 64) ⊎ (64 ≤ m) → (m ≡ n) ⊎ (m ≡ n → ⊥) → cond (ltb m 64) (cond (eqb (get_or xs m 0) (get_or xs n 0) && eqb e d) x (v.cell (get_or xs m 0) e)) Empty ≡ cond (eqb m n && eqb e d) x (cond (ltb m 64) (v.cell (get_or xs m 0) e) Empty)
+    at m e (inl l) (inl q) = rw (lt-ltb m 64 l, eq-eqb m n q, eq-eqb (get_or xs m 0) (get_or xs n 0) (ap (λ i. get_or xs i 0) q)) refl
+    at m e (inl l) (inr q) = rw (lt-ltb m 64 l, ne_eqb m n q, ne_eqb (get_or xs m 0) (get_or xs n 0) (λ s. q (apart m n (l, h, s)))) refl
+    at m e (inr l) q = rw (le-ltb m 64 l, ne_eqb m n (λ s. omega arith)) refl
+
+-- so a call below is the call above
+module _ (xs : List ℕ) (v : View) (n m : ℕ) (small : Small xs) (apart : Apart xs) (f : Fault) (e : Ok m ≡ only_if (ltb n 64) f (Ok (get_or xs n 0))) where
+  low : n < 64
+  low = ltb-true n 64 (let_through _ f _ _ e).0
+
+  is : Is (slot_view xs v) v n m
+  is = subst (λ k. Is (slot_view xs v) v n k) (sym (let_through _ f _ _ e).1) (slot_is xs v n small low)
+
+  cell : (d : ℕ) (x : Cell) → slot_view xs (with_cell v m d x) ≡ with_cell (slot_view xs v) n d x
+  cell d x = subst (λ k. slot_view xs (with_cell v k d x) ≡ with_cell (slot_view xs v) n d x) (sym (let_through _ f _ _ e).1) (slot_cell xs v n d x apart low)
+
+  pub slot_clear : (d : ℕ) → slot_view xs (clear_after v m d) ≡ clear_after (slot_view xs v) n d
+  slot_clear d = changed_both (slot_view xs) n _ _ v (with_cell v m d Empty) _ (clear_lifts (slot_view xs v) v n m is d) (cell d Empty)
+
+  pub slot_put : (d c l : ℕ) → slot_view xs (put_after v m d c l) ≡ put_after (slot_view xs v) n d c l
+  slot_put d c l = changed_both (slot_view xs) n _ _ v (with_cell v m d (Hop c l)) _ (put_lifts (slot_view xs v) v n m is d c l) (cell d (Hop c l))

@@ -1,5 +1,5 @@
 -- Slot maps, and the bank that stands behind one.
-use Rattle.std.specs.Prelude.{◌≡◌, ℕ, ◌<◌, false, cond, List, ◌==◌, nat_lt, slice_index}
+use Rattle.std.specs.Prelude.{◌≡◌, ℕ, ◌<◌, false, cond, List, Ok, Err, Result, ◌==◌, nat_lt, slice_index}
 use Rattle.fault.specs.declared.faults.Fault.{Fault}
 use Rattle.fault.specs.declared.faults.Fault.TheVariants.{NotSeated, GateOpen, NotOwn}
 use Rattle.fault.specs.Faults.{entry}
@@ -25,3 +25,8 @@ slot_view xs v = record {
 -- a fault of the bank below, by the number that was put to the top
 abbrev pub told_at : Fault → ℕ → Fault
 told_at f n = cond ((entry f).number == 23) (NotSeated n) (cond ((entry f).number == 25) (GateOpen n) (cond ((entry f).number == 26) (NotOwn n) f))
+
+-- an answer of the bank below, as the top gives it at number n
+abbrev pub lifted : {X : Type 0} → ℕ → Result X Fault → Result X Fault
+lifted n (Ok x) = Ok x
+lifted n (Err f) = Err (told_at f n)

@@ -9,3 +9,10 @@ pub struct Joined<A, B> {
     pub(crate) second: B,
     ghost low: { split ≤ 64 },
 }
+
+/// Where a node stands: in the first bank or the second, and at which number there.
+#[derive(Clone, Copy)]
+pub(crate) enum Side {
+    First(u8),
+    Second(u8),
+}

@@ -1,11 +1,11 @@
 // Joined cabinets.
 ghost use Rattle.std.specs.Prelude.{◌≡◌, ◌<◌, ◌≤◌, Ok, Err};
 ghost use Rattle.fault.specs.declared.faults.Fault.TheVariants.{BadMap};
-ghost use Rattle.piles.specs.Cabinets.{joined_view};
+ghost use Rattle.piles.specs.Cabinets.{joined_view, side_of};
 
-use crate::cabinets::Joined;
+use crate::cabinets::{Joined, Side};
 use crate::mapping::Rejected;
-use crate::places::moved;
+use crate::places::told;
 use bank::Bank;
 use fault::Fault;
 use wiring::Cell;
@@ -39,93 +39,72 @@ impl<A: Bank, B: Bank> Joined<A, B> {
         } = self;
         (first, second)
     }
+
+    /// Where a node stands.
+    fn side(&self, node: u8) -> Result<Side, Fault>
+        ensures { result ≡ side_of self.now.split node }
+    {
+        if node >= 64 {
+            Err(Fault::NotSeated { node })
+        } else if node < self.split {
+            Ok(Side::First(node))
+        } else {
+            Ok(Side::Second(node - self.split))
+        }
+    }
 }
 
 impl<A: Bank, B: Bank> Bank for Joined<A, B> {
     ghost view = { λ j. joined_view j.split (A.Bank.view j.first) (B.Bank.view j.second) };
 
     fn seated(&self, node: u8) -> bool {
-        if node < self.split {
-            return self.first.seated(node);
+        match self.side(node) {
+            Ok(Side::First(n)) => self.first.seated(n),
+            Ok(Side::Second(n)) => self.second.seated(n),
+            Err(_) => false,
         }
-        node < 64 && self.second.seated(node - self.split)
     }
 
     fn own(&self, node: u8, channel: u8) -> bool {
-        if node < self.split {
-            return self.first.own(node, channel);
+        match self.side(node) {
+            Ok(Side::First(n)) => self.first.own(n, channel),
+            Ok(Side::Second(n)) => self.second.own(n, channel),
+            Err(_) => false,
         }
-        node < 64 && self.second.own(node - self.split, channel)
     }
 
     fn gate(&self, node: u8) -> Result<bool, Fault> {
-        if node >= 64 {
-            return Err(Fault::NotSeated { node });
-        }
-        if node < self.split {
-            return self.first.gate(node);
-        }
-        match self.second.gate(node - self.split) {
-            Ok(open) => Ok(open),
-            Err(fault) => Err(moved(fault, node)),
+        match self.side(node)? {
+            Side::First(n) => self.first.gate(n),
+            Side::Second(n) => told(self.second.gate(n), node),
         }
     }
 
     fn cell(&self, node: u8, destination: u8) -> Result<Cell, Fault> {
-        if node >= 64 {
-            return Err(Fault::NotSeated { node });
-        }
-        if node < self.split {
-            return self.first.cell(node, destination);
-        }
-        match self.second.cell(node - self.split, destination) {
-            Ok(cell) => Ok(cell),
-            Err(fault) => Err(moved(fault, node)),
+        match self.side(node)? {
+            Side::First(n) => self.first.cell(n, destination),
+            Side::Second(n) => told(self.second.cell(n, destination), node),
         }
     }
 
     fn set_gate(&mut self, node: u8, open: bool) -> Result<(), Fault> {
-        if node >= 64 {
-            return Err(Fault::NotSeated { node });
-        }
-        if node < self.split {
-            return self.first.set_gate(node, open);
-        }
-        match self.second.set_gate(node - self.split, open) {
-            Ok(()) => Ok(()),
-            Err(fault) => Err(moved(fault, node)),
+        match self.side(node)? {
+            Side::First(n) => self.first.set_gate(n, open),
+            Side::Second(n) => told(self.second.set_gate(n, open), node),
         }
     }
 
     fn clear(&mut self, node: u8, destination: u8) -> Result<(), Fault> {
-        if node >= 64 {
-            return Err(Fault::NotSeated { node });
-        }
-        if node < self.split {
-            return self.first.clear(node, destination);
-        }
-        match self.second.clear(node - self.split, destination) {
-            Ok(()) => Ok(()),
-            Err(fault) => Err(moved(fault, node)),
+        match self.side(node)? {
+            Side::First(n) => self.first.clear(n, destination),
+            Side::Second(n) => told(self.second.clear(n, destination), node),
         }
     }
 
     fn put(&mut self, node: u8, destination: u8, channel: u8, layer: u8) -> Result<(), Fault> {
-        if node >= 64 {
-            return Err(Fault::NotSeated { node });
-        }
-        if node < self.split {
-            return match self.first.put(node, destination, channel, layer) {
-                Ok(()) => Ok(()),
-                Err(fault) => Err(moved(fault, node)),
-            };
-        }
-        match self
-            .second
-            .put(node - self.split, destination, channel, layer)
-        {
-            Ok(()) => Ok(()),
-            Err(fault) => Err(moved(fault, node)),
+        match self.side(node)? {
+            Side::First(n) => self.first.put(n, destination, channel, layer),
+            Side::Second(n) => told(self.second.put(n, destination, channel, layer), node),
         }
     }
 }

@@ -1,9 +1,10 @@
 // Slot maps.
-ghost use Rattle.std.specs.Prelude.{◌≡◌, true, false, Ok, Err};
-ghost use Rattle.fault.specs.declared.faults.Fault.TheVariants.{BadMap};
+ghost use Rattle.std.specs.Prelude.{◌≡◌, ◌↔◌, IsTrue, Ok, Err, nat_lt, slice_index};
+ghost use Rattle.fault.specs.declared.faults.Fault.TheVariants.{BadMap, NotSeated};
+ghost use Rattle.wiring.specs.Lists.{only_if};
 ghost use Rattle.piles.specs.Slots.{Small, Apart, slot_view};
 
-use crate::places::moved;
+use crate::places::told;
 use crate::slots::SlotMap;
 use bank::Bank;
 use fault::Fault;
@@ -18,19 +19,17 @@ pub struct Rejected<B> {
 
 /// Whether the numbers are those from 0 to 63 in some order.
 fn permutes(map: &[u8; 64]) -> bool
-    ensures yes { result ≡ true → Small map.now × Apart map.now }
-    ensures no { result ≡ false → Small map.now × Apart map.now → ⊥ }
+    ensures { IsTrue result ↔ Small map.now × Apart map.now }
 {
     let mut seen = [false; 64];
-    for i in 0..64 {
-        let slot = map[i] as usize;
+    for &slot in map {
         if slot >= 64 {
             return false;
         }
-        if seen[slot] {
+        if seen[slot as usize] {
             return false;
         }
-        seen[slot] = true;
+        seen[slot as usize] = true;
     }
     true
 }
@@ -57,69 +56,58 @@ impl<B: Bank> SlotMap<B> {
         let SlotMap { map: _, below } = self;
         below
     }
+
+    /// Where a node stands in the bank below.
+    fn slot(&self, node: u8) -> Result<u8, Fault>
+        ensures { result ≡ only_if (nat_lt node 64) (NotSeated node) (Ok (slice_index self.now.map node)) }
+    {
+        if node < 64 {
+            Ok(self.map[node as usize])
+        } else {
+            Err(Fault::NotSeated { node })
+        }
+    }
 }
 
 impl<B: Bank> Bank for SlotMap<B> {
     ghost view = { λ s. slot_view s.map (B.Bank.view s.below) };
 
     fn seated(&self, node: u8) -> bool {
-        node < 64 && self.below.seated(self.map[node as usize])
+        match self.slot(node) {
+            Ok(slot) => self.below.seated(slot),
+            Err(_) => false,
+        }
     }
 
     fn own(&self, node: u8, channel: u8) -> bool {
-        node < 64 && self.below.own(self.map[node as usize], channel)
+        match self.slot(node) {
+            Ok(slot) => self.below.own(slot, channel),
+            Err(_) => false,
+        }
     }
 
     fn gate(&self, node: u8) -> Result<bool, Fault> {
-        if node >= 64 {
-            return Err(Fault::NotSeated { node });
-        }
-        match self.below.gate(self.map[node as usize]) {
-            Ok(open) => Ok(open),
-            Err(fault) => Err(moved(fault, node)),
-        }
+        let slot = self.slot(node)?;
+        told(self.below.gate(slot), node)
     }
 
     fn cell(&self, node: u8, destination: u8) -> Result<Cell, Fault> {
-        if node >= 64 {
-            return Err(Fault::NotSeated { node });
-        }
-        match self.below.cell(self.map[node as usize], destination) {
-            Ok(cell) => Ok(cell),
-            Err(fault) => Err(moved(fault, node)),
-        }
+        let slot = self.slot(node)?;
+        told(self.below.cell(slot, destination), node)
     }
 
     fn set_gate(&mut self, node: u8, open: bool) -> Result<(), Fault> {
-        if node >= 64 {
-            return Err(Fault::NotSeated { node });
-        }
-        let slot = self.map[node as usize];
-        match self.below.set_gate(slot, open) {
-            Ok(()) => Ok(()),
-            Err(fault) => Err(moved(fault, node)),
-        }
+        let slot = self.slot(node)?;
+        told(self.below.set_gate(slot, open), node)
     }
 
     fn clear(&mut self, node: u8, destination: u8) -> Result<(), Fault> {
-        if node >= 64 {
-            return Err(Fault::NotSeated { node });
-        }
-        let slot = self.map[node as usize];
-        match self.below.clear(slot, destination) {
-            Ok(()) => Ok(()),
-            Err(fault) => Err(moved(fault, node)),
-        }
+        let slot = self.slot(node)?;
+        told(self.below.clear(slot, destination), node)
     }
 
     fn put(&mut self, node: u8, destination: u8, channel: u8, layer: u8) -> Result<(), Fault> {
-        if node >= 64 {
-            return Err(Fault::NotSeated { node });
-        }
-        let slot = self.map[node as usize];
-        match self.below.put(slot, destination, channel, layer) {
-            Ok(()) => Ok(()),
-            Err(fault) => Err(moved(fault, node)),
-        }
+        let slot = self.slot(node)?;
+        told(self.below.put(slot, destination, channel, layer), node)
     }
 }

@@ -1,16 +1,23 @@
 // Faults of a bank below, told at the number that was put to the top.
 ghost use Rattle.std.specs.Prelude.{◌≡◌};
-ghost use Rattle.piles.specs.Slots.{told_at};
+ghost use Rattle.piles.specs.Slots.{told_at, lifted};
 
 use fault::Fault;
 
-pub(crate) fn moved(fault: Fault, node: u8) -> Fault
+fn moved(fault: Fault, node: u8) -> Fault
     ensures { result ≡ told_at fault node }
 {
-    match fault.number() {
-        23 => Fault::NotSeated { node },
-        25 => Fault::GateOpen { node },
-        26 => Fault::NotOwn { node },
-        _ => fault,
+    match fault {
+        Fault::NotSeated { .. } => Fault::NotSeated { node },
+        Fault::GateOpen { .. } => Fault::GateOpen { node },
+        Fault::NotOwn { .. } => Fault::NotOwn { node },
+        other => other,
     }
+}
+
+/// An answer of the bank below, as the top gives it.
+pub(crate) fn told<T>(answer: Result<T, Fault>, node: u8) -> Result<T, Fault>
+    ensures { result ≡ lifted node answer }
+{
+    answer.map_err(|fault| moved(fault, node))
 }

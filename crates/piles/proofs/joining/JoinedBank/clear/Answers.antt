@@ -1,18 +1,11 @@
-use Rattle.std.proofs.Common.{Err, ap, ◌∙◌}
+use Rattle.std.proofs.Common.{Ok, sym, ap, ◌∙◌}
 use Rattle.bank.specs.Banks.{View}
 use Rattle.piles.specs.Cabinets.{joined_view}
-use Rattle.piles.proofs.PlaceLaws.{clear_lifts, refused_above, refused_both}
-use Rattle.piles.proofs.CabinetLaws.{second_is}
+use Rattle.piles.proofs.CabinetLaws.{second_clear}
 use Rattle.piles.proofs.joining.JoinedBank.clear.Goals as goal
 
-pub returns-in-Err : goal.returns-in-Err
-returns-in-Err g c =
+pub returns-in-Second-clause-after : goal.returns-in-Second-clause-after
+returns-in-Second-clause-after g c =
     let j = c.args.self.now in
     let a = g.A.Bank.view j.first in
-    let b = g.B.Bank.view j.second in
-    let is = second_is j.split a b c.args.node c.if-node-ge64.false c.if-node-self.false in
-    let lifts = clear_lifts (joined_view j.split a b) b c.args.node _ is c.args.destination in
-    record {
-      answer = ap Err c.moved.ensures ∙ refused_above c.args.node c.in-Err.fault _ _ c.in-Err.ensures.answer lifts;
-      after = refused_both (λ (v : View). joined_view j.split a v) c.args.node c.in-Err.fault _ _ b _ _ _ c.in-Err.ensures.answer lifts c.in-Err.ensures.after;
-    }
+    ap (λ (v : View). joined_view j.split a v) c.clear-in-Second.ensures.after ∙ second_clear j.split a (g.B.Bank.view j.second) c.args.node _ (sym (ap Ok c.in-Second.is) ∙ sym c.in_ok-n.was ∙ c.side.ensures) c.args.destination

@@ -1,30 +1,17 @@
-use Rattle.std.proofs.Common.{Err, ap, ◌∙◌}
+use Rattle.std.proofs.Common.{Ok, sym, ap, ◌∙◌}
 use Rattle.bank.specs.Banks.{View}
+use Rattle.piles.specs.Slots.{lifted}
 use Rattle.piles.specs.Cabinets.{joined_view}
-use Rattle.piles.proofs.PlaceLaws.{put_lifts, refused_above, refused_both}
-use Rattle.piles.proofs.CabinetLaws.{first_is, second_is}
+use Rattle.piles.proofs.CabinetLaws.{second_put, second_put_answer}
 use Rattle.piles.proofs.joining.JoinedBank.put.Goals as goal
 
-pub returns-in-Err : goal.returns-in-Err
-returns-in-Err g c =
+pub returns-in-Second-clause-answer : goal.returns-in-Second-clause-answer
+returns-in-Second-clause-answer g c =
     let j = c.args.self.now in
-    let a = g.A.Bank.view j.first in
-    let b = g.B.Bank.view j.second in
-    let is = first_is j.split a b c.args.node j.low c.if-node-self.true in
-    let lifts = put_lifts (joined_view j.split a b) a c.args.node _ is c.args.destination c.args.channel c.args.layer in
-    record {
-      answer = ap Err c.moved.ensures ∙ refused_above c.args.node c.in-Err.fault _ _ c.in-Err.ensures.answer lifts;
-      after = refused_both (λ (v : View). joined_view j.split v b) c.args.node c.in-Err.fault _ _ a _ _ _ c.in-Err.ensures.answer lifts c.in-Err.ensures.after;
-    }
+    c.told.ensures ∙ ap (lifted c.args.node) c.put-in-Second.ensures.answer ∙ second_put_answer j.split (g.A.Bank.view j.first) (g.B.Bank.view j.second) c.args.node _ (sym (ap Ok c.in-Second.is) ∙ sym c.in_ok-n.was ∙ c.side.ensures) c.args.destination c.args.channel c.args.layer
 
-pub returns-in-Err-put : goal.returns-in-Err-put
-returns-in-Err-put g c =
+pub returns-in-Second-clause-after : goal.returns-in-Second-clause-after
+returns-in-Second-clause-after g c =
     let j = c.args.self.now in
     let a = g.A.Bank.view j.first in
-    let b = g.B.Bank.view j.second in
-    let is = second_is j.split a b c.args.node c.if-node-ge64.false c.if-node-self.false in
-    let lifts = put_lifts (joined_view j.split a b) b c.args.node _ is c.args.destination c.args.channel c.args.layer in
-    record {
-      answer = ap Err c.moved-in-Err-put.ensures ∙ refused_above c.args.node c.in-Err-put.fault _ _ c.in-Err-put.ensures.answer lifts;
-      after = refused_both (λ (v : View). joined_view j.split a v) c.args.node c.in-Err-put.fault _ _ b _ _ _ c.in-Err-put.ensures.answer lifts c.in-Err-put.ensures.after;
-    }
+    ap (λ (v : View). joined_view j.split a v) c.put-in-Second.ensures.after ∙ second_put j.split a (g.B.Bank.view j.second) c.args.node _ (sym (ap Ok c.in-Second.is) ∙ sym c.in_ok-n.was ∙ c.side.ensures) c.args.destination c.args.channel c.args.layer

@@ -1,16 +1,9 @@
-use Rattle.std.proofs.Common.{Err, ap, ◌∙◌}
+use Rattle.std.proofs.Common.{ap, ◌∙◌}
 use Rattle.piles.specs.Slots.{slot_view}
-use Rattle.piles.proofs.PlaceLaws.{put_lifts, refused_above, refused_both}
-use Rattle.piles.proofs.SlotLaws.{slot_is}
+use Rattle.piles.proofs.SlotLaws.{slot_put}
 use Rattle.piles.proofs.mapping.SlotMapBank.put.Goals as goal
 
-pub returns-in-Err : goal.returns-in-Err
-returns-in-Err g c =
+pub returns-clause-after : goal.returns-clause-after
+returns-clause-after g c =
     let s = c.args.self.now in
-    let v = g.B.Bank.view s.below in
-    let is = slot_is s.map v c.args.node s.small c.if-node-ge64.false in
-    let lifts = put_lifts (slot_view s.map v) v c.args.node _ is c.args.destination c.args.channel c.args.layer in
-    record {
-      answer = ap Err c.moved.ensures ∙ refused_above c.args.node c.in-Err.fault _ _ c.in-Err.ensures.answer lifts;
-      after = refused_both (slot_view s.map) c.args.node c.in-Err.fault _ _ v _ _ _ c.in-Err.ensures.answer lifts c.in-Err.ensures.after;
-    }
+    ap (slot_view s.map) c.put.ensures.after ∙ slot_put s.map (g.B.Bank.view s.below) c.args.node _ s.small s.apart _ c.in_ok-slot.ensures c.args.destination c.args.channel c.args.layer
