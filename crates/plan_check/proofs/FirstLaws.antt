@@ -1,9 +1,10 @@
 -- The first thing found along a range.
-use Rattle.std.proofs.Common.{◌≡◌, ℕ, zero, suc, ◌+◌, ◌<◌, ◌≤◌, true, false, not, Some, None, Option, sym, ap, ◌∙◌, ⊎_elim, arith}
+use Rattle.std.proofs.Common.{◌≡◌, ℕ, zero, suc, ◌+◌, ◌<◌, ◌≤◌, true, false, not, Some, None, Ok, Err, Option, sym, refl, ap, ◌∙◌, ⊎_elim, arith}
 use Rattle.std.proofs.lemmas.Bool.{cases_eq, not-true, not-false}
 use Rattle.wiring.specs.Lists.{range, first_some}
 use Rattle.plan_check.proofs.SearchedLaws.{none_found, all_none}
 use Rattle.fault.specs.declared.faults.Fault.{Fault}
+use Rattle.fault.specs.Faults.{judged}
 use Rattle.fault.specs.declared.faults.Fault.TheVariants.{Cycle as CycleFault}
 use Rattle.wiring.specs.Topologies.{Topology, all_nodes}
 use Rattle.plan_check.specs.Rules.{cell_fault, layer_fault, deps_in}
@@ -27,14 +28,24 @@ module _ {Y : Type 0} (f : ℕ → Option Y) where
   pub found_none : (n : ℕ) → ((j : ℕ) → j < n → f j ≡ None) → first_some f (range 0 n) ≡ None
   found_none n b = none_found f 0 n (λ k l h. b k (omega arith))
 
+-- nothing is found where a test lets pass
+pub let_pass : (o : Option Fault) → Ok tt ≡ judged o → o ≡ None
+let_pass None e = refl
+let_pass (Some f) e = let z : ◌≡◌ {A = ℕ} 0 1 = cc in absurd (omega arith)
+
+what_stops : (o : Option Fault) (x : Fault) → Err x ≡ judged o → o ≡ Some x
+what_stops None x e = let z : ◌≡◌ {A = ℕ} 0 1 = cc in absurd (omega arith)
+what_stops (Some f) x e = cc
+
+-- tests one after the other, the first that does not let pass
+module _ (f : ℕ → Option Fault) (n : ℕ) where
+  pub stopped : (i : ℕ) (x : Fault) → i < n → ((j : ℕ) → j < i → f j ≡ None) → Err x ≡ judged (f i) → Err x ≡ judged (first_some f (range 0 n))
+  stopped i x h before e = ap judged (sym (found_at f n i x h before (what_stops (f i) x e)))
+
+  pub passed : ((j : ℕ) → j < n → f j ≡ None) → Ok tt ≡ judged (first_some f (range 0 n))
+  passed all = ap judged (sym (found_none f n all))
+
 module _ (w : Topology) (t : Table) where
-  pub fault_found : (d n : ℕ) (f : Fault) → d < w.nodes → n < w.nodes → ((i : ℕ) → i < d → (k : ℕ) → k < w.nodes → cell_fault w t i k ≡ None) → ((k : ℕ) → k < n → cell_fault w t d k ≡ None) → Some f ≡ cell_fault w t d n → Some f ≡ first_fault w t
-  fault_found d n f k l rows row q =
-      sym (found_at (λ i. first_some (cell_fault w t i) (all_nodes w)) w.nodes d f k (λ i h. found_none (cell_fault w t i) w.nodes (rows i h)) (found_at (cell_fault w t d) w.nodes n f l row (sym q)))
-
-  pub no_fault : ((i : ℕ) → i < w.nodes → (k : ℕ) → k < w.nodes → cell_fault w t i k ≡ None) → None ≡ first_fault w t
-  no_fault rows = sym (found_none (λ i. first_some (cell_fault w t i) (all_nodes w)) w.nodes (λ i h. found_none (cell_fault w t i) w.nodes (rows i h)))
-
   pub all_sound : None ≡ first_fault w t → Sound w t
   all_sound q d n h k = all_none (cell_fault w t d) 0 w.nodes (all_none (λ i. first_some (cell_fault w t i) (all_nodes w)) 0 w.nodes (sym q) d (omega arith) (omega arith)) n (omega arith) (omega arith)
 

@@ -1,21 +1,19 @@
 -- What the answer of the check says.
-use Rattle.std.proofs.Common.{◌≡◌, ℕ, List, Some, None, Ok, Option, sym, refl, ap, ◌∙◌, arith}
+use Rattle.std.proofs.Common.{◌≡◌, ℕ, List, Some, None, Ok, Err, sym, refl, ap, ◌∙◌}
 use Rattle.std.proofs.lemmas.Bool.{eq-eqb}
 use Rattle.fault.specs.declared.faults.Fault.{Fault}
 use Rattle.wiring.specs.Tables.{Table}
 use Rattle.wiring.specs.Topologies.{Topology, Valid}
 use Rattle.sheet.specs.Plans.{Plan, read_plan, cells_in}
 use Rattle.sheet.specs.Wirings.{read_wiring}
-use Rattle.plan_check.specs.Rules.{verdict, Passes}
-use Rattle.plan_check.specs.Verdicts.{Judged, judged, check_answer, Exact, Arrives, Moves}
+use Rattle.wiring.specs.Lists.{range, first_some}
+use Rattle.plan_check.specs.Rules.{first_fault, layer_fault, verdict, Passes}
+use Rattle.fault.specs.Faults.{judged}
+use Rattle.plan_check.specs.Verdicts.{Judged, check_answer, Exact, Arrives, Moves}
 use Rattle.plan_check.proofs.CheckLaws.{verdict_exact}
+use Rattle.plan_check.proofs.FirstLaws.{let_pass}
 use Rattle.plan_check.proofs.RouteLaws.{routes_arrive}
 use Rattle.plan_check.proofs.PacketLaws.{no_deadlock}
-
--- accepted means that nothing was found
-none_found : (o : Option Fault) → judged o ≡ Ok tt → o ≡ None
-none_found None e = refl
-none_found (Some f) e = let z : ◌≡◌ {A = ℕ} 0 1 = cc in absurd (omega arith)
 
 pub record Judges (w : Topology) (t : Table) (r : Judged) : Type 0 where
   pub answer : r ≡ judged (verdict w t)
@@ -23,16 +21,24 @@ pub record Judges (w : Topology) (t : Table) (r : Judged) : Type 0 where
   pub arrives : Arrives w t r
   pub moves : Moves w t r
 
-pub judged_laws : (w : Topology) (t : Table) → Valid w → (o : Option Fault) (r : Judged) → o ≡ verdict w t → r ≡ judged o → Judges w t r
-judged_laws w t ok o r e q = record {
-  answer = q ∙ ap judged e;
-  exact = (pass, λ p. q ∙ ap judged (e ∙ (verdict_exact w t ok).1 p));
+pub judged_laws : (w : Topology) (t : Table) → Valid w → (r : Judged) → r ≡ judged (verdict w t) → Judges w t r
+judged_laws w t ok r q = record {
+  answer = q;
+  exact = (pass, λ p. q ∙ ap judged ((verdict_exact w t ok).1 p));
   arrives = λ f. routes_arrive w t ok (pass f);
   moves = λ f. no_deadlock w t ok (pass f);
 }
   where
     pass : r ≡ Ok tt → Passes w t
-    pass f = (verdict_exact w t ok).0 (sym e ∙ none_found o (sym q ∙ f))
+    pass f = (verdict_exact w t ok).0 (let_pass _ (sym f ∙ q))
+
+-- a faulty cell decides, and after all cells the layers
+module _ (w : Topology) (t : Table) where
+  pub cell_decides : (f : Fault) → first_fault w t ≡ Some f → Err f ≡ judged (verdict w t)
+  cell_decides f e = rw (e, verdict) refl
+
+  pub layers_decide : first_fault w t ≡ None → judged (first_some (layer_fault w t) (range 0 w.layers)) ≡ judged (verdict w t)
+  layers_decide e = rw (e, verdict) refl
 
 -- both sheets are read, and for one number of nodes
 pub sheets_judged : (ws ps : List ℕ) (w : Topology) (p : Plan) → Ok w ≡ read_wiring ws → Ok p ≡ read_plan ps → p.nodes ≡ w.nodes → judged (verdict w (cells_in p)) ≡ check_answer ws ps

@@ -2,7 +2,7 @@
 use Rattle.std.specs.Prelude.{◌≡◌, ℕ, ◌+◌, ◌*◌, ◌<◌, Bool, true, false, not, List, ◌∷◌, length, Some, None, count_by, Option, slice_index, slice_index_or}
 use Rattle.wiring.specs.Topologies.{Topology, channels, from, into}
 use Rattle.plan_check.specs.Cycles.{Deps, Linked, has}
-use Rattle.plan_check.specs.declared.noting.Dependency.{Dependency}
+use Rattle.wiring.specs.declared.dependencies.Dependency.{Dependency}
 
 abbrev pub mark : List Bool → ℕ → ℕ → Bool
 mark xs c e = slice_index_or xs (240 * c + e) false

@@ -1,88 +1,89 @@
 // Whether the dependencies of a layer have a cycle: channels that depend on nothing that is left are taken away until none can be.
-ghost use Rattle.std.specs.Prelude.{◌≡◌, ℕ, ◌+◌, ◌*◌, ◌<◌, ◌≤◌, true, false, not, length, slice_index, slice_index_or};
+ghost use Rattle.std.specs.Prelude.{◌≡◌, ℕ, ◌<◌, true, false, not, length, slice_index};
+ghost use Rattle.wiring.specs.Networks.{net};
 ghost use Rattle.wiring.specs.Topologies.{channels};
-ghost use Rattle.wiring.specs.Spans.{owned};
-ghost use Rattle.wiring.specs.Owned.{own};
-ghost use Rattle.wiring.specs.Wirings.{topology};
 ghost use Rattle.plan_check.specs.Cycles.{Deps, acyclic};
-ghost use Rattle.plan_check.specs.Rules.{Sound, deps_in};
-ghost use Rattle.plan_check.specs.Marks.{Noted, HeldAmong, FreeAmong, Left, Swept};
+ghost use Rattle.plan_check.specs.Rules.{deps_in};
+ghost use Rattle.plan_check.specs.Marks.{Noted, HeldAmong, FreeAmong, Left, Swept, is_gone};
 
-use crate::noting::note_layer;
-use wiring::{Cells, Ports, Wiring};
+use crate::sets::{ChannelSet, DependencySet};
+use crate::sound::SoundCells;
+use wiring::{Cells, Dependency, Network};
 
-/// Whether a channel depends on one of these that is left.
-fn is_held(marks: &[bool], gone: &[bool], own: &[u8], c: u8) -> bool
-    requires sizes { (length marks.now ≡ 57600) × (length gone.now ≡ 240) × (c < 240) }
-    requires inside { (k : ℕ) → k < length own.now → slice_index own.now k < 240 }
-    ensures held { result ≡ true → HeldAmong own.now marks.now gone.now c }
-    ensures free { result ≡ false → FreeAmong own.now marks.now gone.now c (length own.now) }
-{
-    for i in 0..own.len() {
-        let e = own[i];
-        if marks[240 * c as usize + e as usize] && !gone[e as usize] {
-            return true;
-        }
-    }
-    false
+/// The channels of a network, and the dependencies of a layer.
+#[derive(Drop)]
+struct Layer<'a> {
+    network: &'a Network<'a>,
+    noted: DependencySet,
 }
 
-/// Takes away the channels that depend on nothing that is left, upward; whether there was one.
-fn sweep(wiring: &Wiring, ports: &Ports, marks: &[bool], gone: &mut [bool]) -> bool
-    requires sizes { (length marks.now ≡ 57600) × (length gone.old ≡ 240) }
-    requires laid { (n : ℕ) → owned ports.now n ≡ own (topology wiring.now) n }
-    ensures { Swept (topology wiring.now) marks.now gone.old gone.new result }
-{
-    let count = wiring.channels();
-    let mut taken = false;
-    for c in 0..count {
-        if gone[c as usize] {
-            continue;
+impl Layer<'_> {
+    /// Whether a channel depends on one of these that is left.
+    fn is_held(&self, own: &[u8], gone: &ChannelSet, channel: u8) -> bool
+        requires channel { channel < 240 }
+        requires inside { (k : ℕ) → k < length own.now → slice_index own.now k < 240 }
+        ensures held { result ≡ true → HeldAmong own.now self.now.noted.marks gone.now.marks channel }
+        ensures free { result ≡ false → FreeAmong own.now self.now.noted.marks gone.now.marks channel (length own.now) }
+    {
+        for &on in own {
+            if self.noted.contains(Dependency { channel, on }) && !gone.contains(on) {
+                return true;
+            }
         }
-        if is_held(marks, gone, ports.own(wiring.into(c)), c) {
-            continue;
-        }
-        gone[c as usize] = true;
-        taken = true;
+        false
     }
-    taken
+
+    /// Takes away the channels that depend on nothing that is left, upward; whether there was one.
+    fn sweep(&self, gone: &mut ChannelSet) -> bool
+        ensures { Swept (net self.now.network.now) self.now.noted.marks gone.old.marks gone.new.marks result }
+    {
+        let wiring = self.network.wiring();
+        let mut taken = false;
+        for c in 0..wiring.channels() {
+            if gone.contains(c) {
+                continue;
+            }
+            if self.is_held(self.network.own(wiring.into(c)), gone, c) {
+                continue;
+            }
+            gone.insert(c);
+            taken = true;
+        }
+        taken
+    }
+
+    /// Whether a channel is left.
+    fn any_left(&self, gone: &ChannelSet) -> bool
+        ensures left { result ≡ true → Left gone.now.marks (channels (net self.now.network.now)) }
+        ensures all { result ≡ false → ((c : ℕ) → c < channels (net self.now.network.now) → is_gone gone.now.marks c ≡ true) }
+    {
+        for c in 0..self.network.wiring().channels() {
+            if !gone.contains(c) {
+                return true;
+            }
+        }
+        false
+    }
+
+    /// Whether a channel stays however often they are taken away.
+    fn cycle_stays(&self) -> bool
+        ensures { (D : Deps) → Noted (net self.now.network.now) self.now.noted.marks D → result ≡ not (acyclic D) }
+    {
+        let mut gone = ChannelSet::new();
+        while self.sweep(&mut gone) {}
+        self.any_left(&gone)
+    }
 }
 
-/// Whether a channel below n is left.
-fn any_left(gone: &[bool], n: u8) -> bool
-    requires { (length gone.now ≡ 240) × (n ≤ 240) }
-    ensures left { result ≡ true → Left gone.now n }
-    ensures all { result ≡ false → ((c : ℕ) → c < n → slice_index_or gone.now c false ≡ true) }
-{
-    for c in 0..n {
-        if !gone[c as usize] {
-            return true;
-        }
+impl<T: Cells> SoundCells<'_, T> {
+    /// Whether the dependencies of layer v have a cycle.
+    pub(crate) fn has_cycle(&self, v: u8) -> bool
+        ensures { result ≡ not (acyclic (deps_in (net self.now.network) (T.Cells.meant self.now.cells.now) v)) }
+    {
+        let layer = Layer {
+            network: &self.network,
+            noted: self.dependencies_in(v),
+        };
+        layer.cycle_stays()
     }
-    false
-}
-
-/// Whether a channel stays however often they are taken away.
-fn cycle_stays(wiring: &Wiring, ports: &Ports, marks: &[bool]) -> bool
-    requires size { length marks.now ≡ 57600 }
-    requires laid { (n : ℕ) → owned ports.now n ≡ own (topology wiring.now) n }
-    ensures { (D : Deps) → Noted (topology wiring.now) marks.now D → result ≡ not (acyclic D) }
-{
-    let mut gone = [false; 240];
-    loop {
-        if !sweep(wiring, ports, marks, &mut gone) {
-            return any_left(&gone, wiring.channels());
-        }
-    }
-}
-
-/// Whether the dependencies of layer v have a cycle, where every cell keeps its rules.
-pub(crate) fn has_cycle<T: Cells>(wiring: &Wiring, ports: &Ports, cells: &T, v: u8) -> bool
-    requires sound { Sound (topology wiring.now) (T.Cells.meant cells.now) }
-    requires laid { (n : ℕ) → owned ports.now n ≡ own (topology wiring.now) n }
-    ensures { result ≡ not (acyclic (deps_in (topology wiring.now) (T.Cells.meant cells.now) v)) }
-{
-    let mut marks = [false; 57600];
-    note_layer(wiring, cells, v, &mut marks);
-    cycle_stays(wiring, ports, &marks)
 }

@@ -5,7 +5,9 @@ mod cycles;
 mod noting;
 mod promises;
 mod rules;
+mod sets;
 mod sheets;
+mod sound;
 mod verdict;
 
 pub use promises::{no_packets_wait_in_a_circle, routes_arrive, verdict_is_exact};

@@ -1,5 +1,8 @@
 // The rules that a cell keeps.
 ghost use Rattle.std.specs.Prelude.{◌≡◌};
+ghost use Rattle.fault.specs.Faults.{judged};
+ghost use Rattle.wiring.specs.Lists.{first_some};
+ghost use Rattle.wiring.specs.Topologies.{all_nodes};
 ghost use Rattle.wiring.specs.Wirings.{topology};
 ghost use Rattle.plan_check.specs.Rules.{layer_of, lowest_other, cell_fault, first_fault};
 
@@ -19,51 +22,47 @@ pub(crate) fn layer_to<T: Cells>(cells: &T, destination: u8) -> u8
 {
     match cells.cell(destination, lowest_but(destination)) {
         Cell::Empty => 0,
-        Cell::Hop { channel: _, layer } => layer,
+        Cell::Hop { layer, .. } => layer,
     }
 }
 
 /// The rule that the cell of a node for a destination breaks, the lowest number first.
-fn broken_rule<T: Cells>(wiring: &Wiring, cells: &T, destination: u8, node: u8) -> Option<Fault>
-    ensures { result ≡ cell_fault (topology wiring.now) (T.Cells.meant cells.now) destination node }
+fn check_cell<T: Cells>(wiring: &Wiring, cells: &T, destination: u8, node: u8) -> Result<(), Fault>
+    ensures { result ≡ judged (cell_fault (topology wiring.now) (T.Cells.meant cells.now) destination node) }
 {
     match cells.cell(destination, node) {
-        Cell::Empty => {
-            if destination == node {
-                None
-            } else {
-                Some(Fault::CellEmpty { destination, node })
-            }
+        Cell::Empty if destination == node => Ok(()),
+        Cell::Empty => Err(Fault::CellEmpty { destination, node }),
+        Cell::Hop { .. } if destination == node => Err(Fault::OwnCellFilled { destination, node }),
+        Cell::Hop { channel, .. } if !wiring.starts(channel, node) => {
+            Err(Fault::StartsElsewhere { destination, node })
         }
-        Cell::Hop { channel, layer } => {
-            if destination == node {
-                Some(Fault::OwnCellFilled { destination, node })
-            } else if !wiring.starts(channel, node) {
-                Some(Fault::StartsElsewhere { destination, node })
-            } else if layer >= wiring.layers() {
-                Some(Fault::LayerTooHigh { destination, node })
-            } else if layer != layer_to(cells, destination) {
-                Some(Fault::LayerDiffers { destination, node })
-            } else {
-                None
-            }
+        Cell::Hop { layer, .. } if layer >= wiring.layers() => {
+            Err(Fault::LayerTooHigh { destination, node })
         }
+        Cell::Hop { layer, .. } if layer != layer_to(cells, destination) => {
+            Err(Fault::LayerDiffers { destination, node })
+        }
+        Cell::Hop { .. } => Ok(()),
     }
 }
 
-/// The first faulty cell, destination by destination and node by node.
-pub(crate) fn first_faulty<T: Cells>(wiring: &Wiring, cells: &T) -> Option<Fault>
-    ensures { result ≡ first_fault (topology wiring.now) (T.Cells.meant cells.now) }
+/// The first faulty cell for a destination, node by node.
+fn check_row<T: Cells>(wiring: &Wiring, cells: &T, destination: u8) -> Result<(), Fault>
+    ensures { result ≡ judged (first_some (cell_fault (topology wiring.now) (T.Cells.meant cells.now) destination) (all_nodes (topology wiring.now))) }
 {
-    let count = wiring.nodes();
-    'cells: {
-        for d in 0..count {
-            for n in 0..count {
-                if let Some(fault) = broken_rule(wiring, cells, d, n) {
-                    break 'cells Some(fault);
-                }
-            }
-        }
-        None
+    for node in 0..wiring.nodes() {
+        check_cell(wiring, cells, destination, node)?;
     }
+    Ok(())
+}
+
+/// The first faulty cell, destination by destination.
+pub(crate) fn check_rules<T: Cells>(wiring: &Wiring, cells: &T) -> Result<(), Fault>
+    ensures { result ≡ judged (first_fault (topology wiring.now) (T.Cells.meant cells.now)) }
+{
+    for destination in 0..wiring.nodes() {
+        check_row(wiring, cells, destination)?;
+    }
+    Ok(())
 }

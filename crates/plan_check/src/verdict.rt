@@ -1,49 +1,37 @@
 // The verdict: the first faulty cell in sheet order, and after all cells the lowest layer with a cycle.
-ghost use Rattle.std.specs.Prelude.{◌≡◌, ℕ};
+ghost use Rattle.std.specs.Prelude.{◌≡◌, MatchResult, None, Some};
+ghost use Rattle.fault.specs.Faults.{judged};
 ghost use Rattle.wiring.specs.Lists.{range, first_some};
-ghost use Rattle.wiring.specs.Spans.{owned};
-ghost use Rattle.wiring.specs.Owned.{own};
+ghost use Rattle.wiring.specs.Networks.{net};
 ghost use Rattle.wiring.specs.Wirings.{topology};
-ghost use Rattle.plan_check.specs.Rules.{Sound, layer_fault, verdict};
-ghost use Rattle.plan_check.specs.Verdicts.{judged, Exact, Arrives, Moves};
+ghost use Rattle.plan_check.specs.Rules.{first_fault, layer_fault, verdict};
+ghost use Rattle.plan_check.specs.Verdicts.{Exact, Arrives, Moves};
 
-use crate::cycles::has_cycle;
-use crate::rules::first_faulty;
+use crate::rules::check_rules;
+use crate::sound::SoundCells;
 use fault::Fault;
-use wiring::{Cells, Ports, Wiring};
+use wiring::{Cells, Network, Wiring};
 
-/// The lowest layer with a cycle, where every cell keeps its rules.
-fn first_cyclic<T: Cells>(wiring: &Wiring, cells: &T) -> Option<Fault>
-    requires { Sound (topology wiring.now) (T.Cells.meant cells.now) }
-    ensures { result ≡ first_some (layer_fault (topology wiring.now) (T.Cells.meant cells.now)) (range 0 (topology wiring.now).layers) }
-{
-    let ports = Ports::new(wiring);
-    let count = wiring.layers();
-    for v in 0..count {
-        if has_cycle(wiring, &ports, cells, v) {
-            return Some(Fault::Cycle { layer: v });
+impl<'a, T: Cells> SoundCells<'a, T> {
+    /// The cells, if each keeps its rules; the first faulty cell, if not.
+    fn new(wiring: &'a Wiring, cells: &'a T) -> Result<SoundCells<'a, T>, Fault>
+        ensures { MatchResult result (λ s. (net s.network ≡ topology wiring.now) × (s.cells.now ≡ cells.now) × (first_fault (topology wiring.now) (T.Cells.meant cells.now) ≡ None)) (λ f. first_fault (topology wiring.now) (T.Cells.meant cells.now) ≡ Some f) }
+    {
+        check_rules(wiring, cells)?;
+        let network = Network::new(wiring);
+        Ok(SoundCells { network, cells })
+    }
+
+    /// The lowest layer with a cycle.
+    fn check_layers(&self) -> Result<(), Fault>
+        ensures { result ≡ judged (first_some (layer_fault (net self.now.network) (T.Cells.meant self.now.cells.now)) (range 0 (net self.now.network).layers)) }
+    {
+        for layer in 0..self.network.wiring().layers() {
+            if self.has_cycle(layer) {
+                return Err(Fault::Cycle { layer });
+            }
         }
-    }
-    None
-}
-
-/// The first rule that a table of cells breaks for a wiring, or none.
-fn first_broken<T: Cells>(wiring: &Wiring, cells: &T) -> Option<Fault>
-    ensures { result ≡ verdict (topology wiring.now) (T.Cells.meant cells.now) }
-{
-    match first_faulty(wiring, cells) {
-        Some(fault) => Some(fault),
-        None => first_cyclic(wiring, cells),
-    }
-}
-
-/// Passing is to break no rule.
-fn judgement(found: Option<Fault>) -> Result<(), Fault>
-    ensures { result ≡ judged found }
-{
-    match found {
-        Some(fault) => Err(fault),
-        None => Ok(()),
+        Ok(())
     }
 }
 
@@ -54,5 +42,5 @@ pub fn check_cells<T: Cells>(wiring: &Wiring, cells: &T) -> Result<(), Fault>
     ensures arrives { Arrives (topology wiring.now) (T.Cells.meant cells.now) result }
     ensures moves { Moves (topology wiring.now) (T.Cells.meant cells.now) result }
 {
-    judgement(first_broken(wiring, cells))
+    SoundCells::new(wiring, cells)?.check_layers()
 }
