@@ -34,17 +34,6 @@ hops_follow w t s i d n c v e u to at q r =
     let m = into_inside w i c a in
     (a, hop_within w t s i d (into w c) e u to m r, hop_starts w t s i d (into w c) e u to m r)
 
--- the dependency that two cells give
-module _ (w : Topology) (t : Table) (d n c v : ℕ) (q : Hop c v ≡ t d n) (D : Deps) where
-  pub dep_arrived : into w c ≡ d → dep_at w t d D n ≡ D
-  dep_arrived e = rw (sym q, dep_at) (rw (eq-eqb (into w c) d e))
-
-  pub dep_onward : (into w c ≡ d → ⊥) → (e u : ℕ) → Hop e u ≡ t d (into w c) → dep_at w t d D n ≡ (c, e) ∷ D
-  dep_onward ne e u r = rw (sym q, dep_at) (rw (ne_eqb (into w c) d ne) (rw (sym r)))
-
-  pub dep_ended : (into w c ≡ d → ⊥) → Empty ≡ t d (into w c) → dep_at w t d D n ≡ D
-  dep_ended ne r = rw (sym q, dep_at) (rw (ne_eqb (into w c) d ne) (rw (sym r)))
-
 pub deps_yes : (w : Topology) (t : Table) (v d : ℕ) (D : Deps) → layer_of t d ≡ v → deps_of w t v D d ≡ fold (dep_at w t d) D (all_nodes w)
 deps_yes w t v d D q = rw (eq-eqb (layer_of t d) v q, deps_of)
 

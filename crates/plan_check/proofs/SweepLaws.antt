@@ -68,9 +68,6 @@ pub record Sweeping (w : Topology) (xs was : List Bool) (c : ℕ) (gone : List B
   pub fewer : taken ≡ true → count_by not gone < count_by not was
   pub held : taken ≡ false → (k : ℕ) → k < c → is_gone gone k ≡ false → Held w xs gone k
 
-pub sweep_none : (w : Topology) (xs was : List Bool) → Sweeping w xs was 0 was false
-sweep_none w xs was = record { grounded = λ D N g. g; most = omega arith; fewer = λ e. absurd (false≢true e); held = λ e k l. absurd (omega arith) }
-
 module _ (w : Topology) (xs was : List Bool) (c : ℕ) (gone : List Bool) (taken : Bool) (h : Sweeping w xs was c gone taken) where
   -- the channel stays, as it is gone or held
   pub sweep_stays : (is_gone gone c ≡ false → Held w xs gone c) → Sweeping w xs was (c + 1) gone taken
@@ -84,9 +81,6 @@ module _ (w : Topology) (xs was : List Bool) (c : ℕ) (gone : List Bool) (taken
         fewer = λ e. omega arith;
         held = λ e. absurd (true≢false e);
       }
-
-pub sweep_all : (w : Topology) (xs was : List Bool) (c : ℕ) (gone : List Bool) (taken : Bool) → channels w ≤ c → Sweeping w xs was c gone taken → Swept w xs was gone taken
-sweep_all w xs was c gone taken l h = record { grounded = h.grounded; fewer = h.fewer; stuck = λ e k m left. h.held e k (omega arith) left }
 
 -- ---- both ends
 

@@ -5,6 +5,8 @@
 mod banking;
 mod grid;
 mod judging;
+mod sheets;
+mod showing;
 mod steps;
 
 use banking::fill_banks;
