@@ -4,13 +4,13 @@
 
 ghost use Rattle.std.specs.Prelude.{◌<◌, IfSome};
 
-use anyhow::anyhow;
+use anyhow::{Context, anyhow};
 use fault::Fault;
 use plan_check::check;
 use sheet::{read_plan, read_wiring};
 use std::alloc::Global;
 
-/// The value of a hexadecimal digit.
+/// The value of a hexadecimal digit. Capitals are none, which `char::to_digit` would take.
 fn digit(byte: u8) -> Option<u8>
     ensures { IfSome result (λ d. d < 16) }
 {
@@ -21,61 +21,43 @@ fn digit(byte: u8) -> Option<u8>
     }
 }
 
-/// The bytes that a text spells; `-` spells none.
-fn decoded(heap: Global, text: &[u8]) -> anyhow::Result<Vec<u8>> {
+/// The bytes that a text spells, two digits a byte; `-` spells none.
+fn decoded(heap: Global, text: &str) -> anyhow::Result<Vec<u8>> {
     let mut bytes = Vec::new(heap);
-    for i in 0..text.len() / 2 {
-        let Some(high) = digit(text[2 * i]) else {
-            return Err(anyhow!("not a hexadecimal digit"));
-        };
-        let Some(low) = digit(text[2 * i + 1]) else {
-            return Err(anyhow!("not a hexadecimal digit"));
-        };
+    for pair in text.as_bytes().chunks_exact(2) {
+        let high = digit(pair[0]).context("not a hexadecimal digit")?;
+        let low = digit(pair[1]).context("not a hexadecimal digit")?;
         bytes.push(16 * high + low)?;
     }
     Ok(bytes)
 }
 
-fn show(rt: &HostRuntime, fault: Fault) -> anyhow::Result<()> {
-    println!(rt; "{fault}")?;
-    Ok(())
-}
-
-fn run_wiring(rt: &HostRuntime, text: &str) -> anyhow::Result<()> {
-    let bytes = decoded(rt.alloc(), text.as_bytes())?;
-    if let Err(fault) = read_wiring(bytes.as_slice()) {
-        return show(rt, fault);
+/// Prints a word where a call is done, or the fault that refuses it.
+fn show<T: Drop>(rt: &impl Print, answer: Result<T, Fault>, done: &str) -> anyhow::Result<()> {
+    match answer {
+        Ok(_) => println!(rt; "{done}")?,
+        Err(fault) => println!(rt; "{fault}")?,
     }
-    println!(rt; "accepted")?;
-    Ok(())
-}
-
-fn run_plan(rt: &HostRuntime, text: &str) -> anyhow::Result<()> {
-    let bytes = decoded(rt.alloc(), text.as_bytes())?;
-    if let Err(fault) = read_plan(bytes.as_slice()) {
-        return show(rt, fault);
-    }
-    println!(rt; "accepted")?;
     Ok(())
 }
 
 fn run_check(rt: &HostRuntime, texts: &str) -> anyhow::Result<()> {
-    let Some((wiring, plan)) = texts.split_once(' ') else {
-        return Err(anyhow!("a check takes two sheets"));
-    };
-    let wiring = decoded(rt.alloc(), wiring.as_bytes())?;
-    let plan = decoded(rt.alloc(), plan.as_bytes())?;
-    if let Err(fault) = check(wiring.as_slice(), plan.as_slice()) {
-        return show(rt, fault);
-    }
-    println!(rt; "passes")?;
-    Ok(())
+    let (wiring, plan) = texts.split_once(' ').context("a check takes two sheets")?;
+    let wiring = decoded(rt.alloc(), wiring)?;
+    let plan = decoded(rt.alloc(), plan)?;
+    show(rt, check(wiring.as_slice(), plan.as_slice()), "passes")
 }
 
 fn run(rt: &HostRuntime, line: &str) -> anyhow::Result<()> {
     match line.split_once(' ') {
-        Some(("wiring", text)) => run_wiring(rt, text),
-        Some(("plan", text)) => run_plan(rt, text),
+        Some(("wiring", text)) => {
+            let bytes = decoded(rt.alloc(), text)?;
+            show(rt, read_wiring(bytes.as_slice()), "accepted")
+        }
+        Some(("plan", text)) => {
+            let bytes = decoded(rt.alloc(), text)?;
+            show(rt, read_plan(bytes.as_slice()), "accepted")
+        }
         Some(("check", texts)) => run_check(rt, texts),
         _ => Err(anyhow!("a line is a kind and its sheets")),
     }
