@@ -2,7 +2,7 @@
 use Rattle.std.proofs.Common.{◌≡◌, ℕ, zero, suc, ◌+◌, ◌*◌, ◌<◌, ◌≤◌, Bool, true, false, ◌&&◌, ◌||◌, eqb, List, [], ◌∷◌, length, get_or, set, replicate, sym, refl, ap, ◌∙◌, subst, ⊎_elim, zero-add, add-one, arith}
 use Rattle.std.proofs.lemmas.List.{get_or-set_same, get_or-set_other}
 use Rattle.std.proofs.lemmas.Bool.{false≢true, eq-eqb, ne_eqb, eqb-true, eqb-false}
-use Rattle.wiring.specs.declared.table.Cell.TheVariants.{Empty, Hop}
+use Rattle.wiring.specs.declared.table.Cell.TheVariants.{Hop}
 use Rattle.wiring.specs.Lists.{range, fold}
 use Rattle.wiring.specs.Tables.{Table}
 use Rattle.wiring.specs.Topologies.{Topology, channels, from, into, all_nodes}

@@ -8,7 +8,7 @@ use Rattle.std.proofs.lemmas.Bool.{cases_eq, false≢true, true≢false}
 use Rattle.wiring.specs.Topologies.{Topology, channels, from, into}
 use Rattle.wiring.specs.Owned.{own, Owns}
 use Rattle.plan_check.specs.Cycles.{Deps, acyclic, Linked}
-use Rattle.plan_check.specs.Marks.{mark, is_gone, Noted, Held, HeldAmong, FreeAmong, Stuck, Left, Grounded, Swept}
+use Rattle.plan_check.specs.Marks.{mark, is_gone, Noted, Held, HeldAmong, FreeAmong, Stuck, Left, Grounded}
 use Rattle.plan_check.proofs.CycleLaws.{Has, acyclic_if_no_cycle, depth, depth_falls}
 use Rattle.plan_check.proofs.NotingLaws.{all_false}
 

@@ -26,43 +26,54 @@ pub(crate) fn layer_to<T: Cells>(cells: &T, destination: u8) -> u8
     }
 }
 
-/// The rule that the cell of a node for a destination breaks, the lowest number first.
-fn check_cell<T: Cells>(wiring: &Wiring, cells: &T, destination: u8, node: u8) -> Result<(), Fault>
-    ensures { result ≡ judged (cell_fault (topology wiring.now) (T.Cells.meant cells.now) destination node) }
-{
-    match cells.cell(destination, node) {
-        Cell::Empty if destination == node => Ok(()),
-        Cell::Empty => Err(Fault::CellEmpty { destination, node }),
-        Cell::Hop { .. } if destination == node => Err(Fault::OwnCellFilled { destination, node }),
-        Cell::Hop { channel, .. } if !wiring.starts(channel, node) => {
-            Err(Fault::StartsElsewhere { destination, node })
-        }
-        Cell::Hop { layer, .. } if layer >= wiring.layers() => {
-            Err(Fault::LayerTooHigh { destination, node })
-        }
-        Cell::Hop { layer, .. } if layer != layer_to(cells, destination) => {
-            Err(Fault::LayerDiffers { destination, node })
-        }
-        Cell::Hop { .. } => Ok(()),
-    }
+/// A table of cells, and the wiring that it is judged for.
+#[derive(Drop)]
+pub(crate) struct Candidate<'a, T> {
+    pub(crate) wiring: &'a Wiring,
+    pub(crate) cells: &'a T,
 }
 
-/// The first faulty cell for a destination, node by node.
-fn check_row<T: Cells>(wiring: &Wiring, cells: &T, destination: u8) -> Result<(), Fault>
-    ensures { result ≡ judged (first_some (cell_fault (topology wiring.now) (T.Cells.meant cells.now) destination) (all_nodes (topology wiring.now))) }
-{
-    for node in 0..wiring.nodes() {
-        check_cell(wiring, cells, destination, node)?;
+impl<T: Cells> Candidate<'_, T> {
+    /// The rule that the cell of a node for a destination breaks, the lowest number first.
+    fn check_cell(&self, destination: u8, node: u8) -> Result<(), Fault>
+        ensures { result ≡ judged (cell_fault (topology self.now.wiring.now) (T.Cells.meant self.now.cells.now) destination node) }
+    {
+        match self.cells.cell(destination, node) {
+            Cell::Empty if destination == node => Ok(()),
+            Cell::Empty => Err(Fault::CellEmpty { destination, node }),
+            Cell::Hop { .. } if destination == node => {
+                Err(Fault::OwnCellFilled { destination, node })
+            }
+            Cell::Hop { channel, .. } if !self.wiring.starts(channel, node) => {
+                Err(Fault::StartsElsewhere { destination, node })
+            }
+            Cell::Hop { layer, .. } if layer >= self.wiring.layers() => {
+                Err(Fault::LayerTooHigh { destination, node })
+            }
+            Cell::Hop { layer, .. } if layer != layer_to(self.cells, destination) => {
+                Err(Fault::LayerDiffers { destination, node })
+            }
+            Cell::Hop { .. } => Ok(()),
+        }
     }
-    Ok(())
-}
 
-/// The first faulty cell, destination by destination.
-pub(crate) fn check_rules<T: Cells>(wiring: &Wiring, cells: &T) -> Result<(), Fault>
-    ensures { result ≡ judged (first_fault (topology wiring.now) (T.Cells.meant cells.now)) }
-{
-    for destination in 0..wiring.nodes() {
-        check_row(wiring, cells, destination)?;
+    /// The first faulty cell for a destination, node by node.
+    fn check_row(&self, destination: u8) -> Result<(), Fault>
+        ensures { result ≡ judged (first_some (cell_fault (topology self.now.wiring.now) (T.Cells.meant self.now.cells.now) destination) (all_nodes (topology self.now.wiring.now))) }
+    {
+        for node in 0..self.wiring.nodes() {
+            self.check_cell(destination, node)?;
+        }
+        Ok(())
     }
-    Ok(())
+
+    /// The first faulty cell, destination by destination.
+    pub(crate) fn check_rules(&self) -> Result<(), Fault>
+        ensures { result ≡ judged (first_fault (topology self.now.wiring.now) (T.Cells.meant self.now.cells.now)) }
+    {
+        for destination in 0..self.wiring.nodes() {
+            self.check_row(destination)?;
+        }
+        Ok(())
+    }
 }

@@ -7,19 +7,21 @@ ghost use Rattle.wiring.specs.Wirings.{topology};
 ghost use Rattle.plan_check.specs.Rules.{first_fault, layer_fault, verdict};
 ghost use Rattle.plan_check.specs.Verdicts.{Exact, Arrives, Moves};
 
-use crate::rules::check_rules;
+use crate::rules::Candidate;
 use crate::sound::SoundCells;
 use fault::Fault;
 use wiring::{Cells, Network, Wiring};
 
 impl<'a, T: Cells> SoundCells<'a, T> {
     /// The cells, if each keeps its rules; the first faulty cell, if not.
-    fn new(wiring: &'a Wiring, cells: &'a T) -> Result<SoundCells<'a, T>, Fault>
-        ensures { MatchResult result (λ s. (net s.network ≡ topology wiring.now) × (s.cells.now ≡ cells.now) × (first_fault (topology wiring.now) (T.Cells.meant cells.now) ≡ None)) (λ f. first_fault (topology wiring.now) (T.Cells.meant cells.now) ≡ Some f) }
+    fn new(candidate: &Candidate<'a, T>) -> Result<SoundCells<'a, T>, Fault>
+        ensures { MatchResult result (λ s. (net s.network ≡ topology candidate.now.wiring.now) × (s.cells.now ≡ candidate.now.cells.now) × (first_fault (topology candidate.now.wiring.now) (T.Cells.meant candidate.now.cells.now) ≡ None)) (λ f. first_fault (topology candidate.now.wiring.now) (T.Cells.meant candidate.now.cells.now) ≡ Some f) }
     {
-        check_rules(wiring, cells)?;
-        let network = Network::new(wiring);
-        Ok(SoundCells { network, cells })
+        candidate.check_rules()?;
+        Ok(SoundCells {
+            network: Network::new(candidate.wiring),
+            cells: candidate.cells,
+        })
     }
 
     /// The lowest layer with a cycle.
@@ -42,5 +44,6 @@ pub fn check_cells<T: Cells>(wiring: &Wiring, cells: &T) -> Result<(), Fault>
     ensures arrives { Arrives (topology wiring.now) (T.Cells.meant cells.now) result }
     ensures moves { Moves (topology wiring.now) (T.Cells.meant cells.now) result }
 {
-    SoundCells::new(wiring, cells)?.check_layers()
+    let candidate = Candidate { wiring, cells };
+    SoundCells::new(&candidate)?.check_layers()
 }
