@@ -20,8 +20,6 @@ struct Layer<'a> {
 impl Layer<'_> {
     /// Whether a channel depends on one of these that is left.
     fn is_held(&self, own: &[u8], gone: &ChannelSet, channel: u8) -> bool
-        requires channel { channel < 240 }
-        requires inside { (k : ℕ) → k < length own.now → slice_index own.now k < 240 }
         ensures held { result ≡ true → HeldAmong own.now self.now.noted.marks gone.now.marks channel }
         ensures free { result ≡ false → FreeAmong own.now self.now.noted.marks gone.now.marks channel (length own.now) }
     {

@@ -28,10 +28,9 @@ impl ChannelSet {
     }
 
     pub(crate) fn contains(&self, channel: u8) -> bool
-        requires { channel < 240 }
         ensures { result ≡ is_gone self.now.marks channel }
     {
-        self.marks[channel as usize]
+        self.marks.get(channel as usize).copied().unwrap_or(false)
     }
 }
 
@@ -44,9 +43,7 @@ pub(crate) struct DependencySet {
 
 /// The place of a dependency in the square.
 fn place(dependency: Dependency) -> usize
-    requires { (dependency.channel < 240) × (dependency.on < 240) }
-    ensures value { result ≡ 240 * dependency.channel + dependency.on }
-    ensures bound { result < 57600 }
+    ensures { result ≡ 240 * dependency.channel + dependency.on }
 {
     240 * dependency.channel as usize + dependency.on as usize
 }
@@ -68,9 +65,8 @@ impl DependencySet {
     }
 
     pub(crate) fn contains(&self, dependency: Dependency) -> bool
-        requires { (dependency.channel < 240) × (dependency.on < 240) }
         ensures { result ≡ mark self.now.marks dependency.channel dependency.on }
     {
-        self.marks[place(dependency)]
+        self.marks.get(place(dependency)).copied().unwrap_or(false)
     }
 }
