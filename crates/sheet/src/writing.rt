@@ -3,6 +3,7 @@ ghost use Rattle.std.specs.Prelude.{◌≡◌, ◌*◌, ◌≤◌, length};
 ghost use Rattle.wiring.specs.Lists.{range};
 ghost use Rattle.sheet.specs.Written.{cell_bytes, row_bytes, table_bytes, plan_head, write_answer, write_after, ReadsBack};
 
+use crate::Letter;
 use fault::Fault;
 use wiring::{Cell, Cells};
 
@@ -21,6 +22,7 @@ fn write_row<T: Cells>(nodes: u8, cells: &T, destination: u8, row: &mut [u8])
     requires { length row.old ≡ 2 * nodes }
     ensures { row.new ≡ row_bytes (T.Cells.meant cells.now) destination (range 0 nodes) }
 {
+    // Tried with `chunks_exact_mut`; the proof does not close: it knows nothing of what is written through the chunks.
     for node in 0..nodes {
         let at = 2 * node as usize;
         let bytes = cell_bytes(cells.cell(destination, node));
@@ -46,9 +48,22 @@ fn write_head(nodes: u8, head: &mut [u8])
     ensures { head.new ≡ plan_head nodes }
 {
     let size = 2 * nodes as usize * nodes as usize;
-    let high = (size / 256) as u8;
-    let low = (size % 256) as u8;
-    head.copy_from_slice(&[2, b'N', 0, 11, 0, 1, b'P', 0, 12, high, low, nodes]);
+    let [high, low] = (size as u16).to_be_bytes();
+    let (nodes_letter, cells_letter) = (u8::from(Letter::N), u8::from(Letter::P));
+    head.copy_from_slice(&[
+        2,
+        nodes_letter,
+        0,
+        11,
+        0,
+        1,
+        cells_letter,
+        0,
+        12,
+        high,
+        low,
+        nodes,
+    ]);
 }
 
 /// Writes the sheet of a plan for so many nodes, and answers its length. Nothing is written where it is refused, nor past the sheet.
@@ -57,10 +72,7 @@ pub fn write_plan<T: Cells>(nodes: u8, cells: &T, memory: &mut [u8]) -> Result<u
     ensures after { memory.new ≡ write_after nodes (T.Cells.meant cells.now) memory.old }
     ensures reads_back { ReadsBack nodes (T.Cells.meant cells.now) result memory.new }
 {
-    if nodes < 1 {
-        return Err(Fault::NodeCount);
-    }
-    if nodes > 64 {
+    if !(1..=64).contains(&nodes) {
         return Err(Fault::NodeCount);
     }
     let need = 12 + 2 * nodes as usize * nodes as usize;
