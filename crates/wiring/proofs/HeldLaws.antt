@@ -1,9 +1,8 @@
 -- What a wiring's record says of the wiring.
 use Rattle.std.proofs.Common.{◌≡◌, ℕ, ◌/◌, ◌%◌, ◌≤◌, Bool, true, false, cond, eqb, length, take, is_some, Some, None, Option, sym, refl, ap, ◌∙◌, arith}
 use Rattle.std.proofs.lemmas.List.{length-map, length-take-le, get_or_past}
-use Rattle.std.proofs.lemmas.Bool.Decides.{nat_tests}
 use Rattle.wiring.specs.declared.wirings.Wiring.{Wiring}
-use Rattle.wiring.specs.Topologies.{Valid, partner, end_of, from, into}
+use Rattle.wiring.specs.Topologies.{Valid, end_of, from}
 use Rattle.wiring.specs.Links.{ends_of}
 use Rattle.wiring.specs.Wirings.{topology}
 use Rattle.wiring.specs.Soundness.{topology_fault}
@@ -27,9 +26,3 @@ nowhere false = refl
 
 pub from_past : (w : Wiring) (c : ℕ) → w.count ≤ c / 2 → 0 ≡ from (topology w) c
 from_past w c l = nowhere (eqb (c % 2) 0) ∙ ap (end_of c) (sym (get_or_past (topology w).links (c / 2) (0, 0) (omega (arith, links_count w))))
-
-partner_past : (c : ℕ) → 240 ≤ c → 120 ≤ partner c / 2
-partner_past c l = grind (arith, nat_tests)
-
-pub into_past : (w : Wiring) (c : ℕ) → 240 ≤ c → 0 ≡ into (topology w) c
-into_past w c l = let r = w.room in let p = partner_past c l in from_past w (partner c) (omega arith)

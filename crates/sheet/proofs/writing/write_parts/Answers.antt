@@ -1,9 +1,6 @@
 use Rattle.std.proofs.Common.{◌∙◌, arith}
-use Rattle.sheet.proofs.WriteLaws.{begun, begun_more, begun_all}
+use Rattle.sheet.proofs.WriteLaws.{begun_more, begun_all}
 use Rattle.sheet.proofs.writing.write_parts.Goals as goal
-
-pub loop-i-init : goal.loop-i-init
-loop-i-init g c = λ bytes answers widths. begun bytes c.args.width c.args.count c.args.memory.now
 
 pub loop-i-preserved : goal.loop-i-preserved
 loop-i-preserved g c = λ bytes answers widths. begun_more bytes c.args.width c.args.count c.loop-i.i _ c.loop-i.memory _ c.loop-i-test.true (c.loop-i.auto.memory ∙ c.requires.size) (answers _ _ _ _ c.write.ensures) (widths c.loop-i.i) (c.loop-i.invariant bytes answers widths)

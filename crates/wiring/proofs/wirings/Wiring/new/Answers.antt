@@ -1,4 +1,4 @@
-use Rattle.std.proofs.Common.{Some, sym, ap, ◌∙◌, subst, arith}
+use Rattle.std.proofs.Common.{Some, sym, ap, ◌∙◌, subst}
 use Rattle.std.proofs.lemmas.Result.{err_from_is_err_and}
 use Rattle.wiring.specs.Links.{drawn}
 use Rattle.wiring.specs.Topologies.{Valid}
@@ -12,12 +12,6 @@ returns-in_err-check-clause-valid c =
     let w = drawn c.args.nodes c.args.layers c.args.links.now in
     let p = err_from_is_err_and c.from_residual.result c.from_residual.ensures.1 in
     rw (p.1, p.2) (λ n e. told_unjoined w n (sym (some_judged _ _ c.in_err-check.ensures) ∙ ap Some e))
-
-pub overflow_cast-count : goal.overflow_cast-count
-overflow_cast-count c = let few = few_of c.args.nodes c.args.layers c.args.links.now (none_judged _ c.in_ok-check.ensures) in omega arith
-
-pub renewed-links-requires : goal.renewed-links-requires
-renewed-links-requires c = few_of c.args.nodes c.args.layers c.args.links.now (none_judged _ c.in_ok-check.ensures)
 
 pub invariant_of-result : goal.invariant_of-result
 invariant_of-result c =
