@@ -1,6 +1,8 @@
 -- What the answer about a sheet's contents says, and what a sheet as it should be keeps to.
-use Rattle.std.proofs.Common.{◌≡◌, ℕ, zero, suc, ◌+◌, ◌-◌, ◌*◌, ◌<◌, ◌≤◌, Bool, true, false, ◌&&◌, eqb, ltb, List, [], ◌∷◌, length, get_or, drop, Some, None, Option, sym, refl, ap, ◌∙◌, subst, ap₂, add-zero, zero-add, arith}
+use Rattle.std.proofs.Common.{◌≡◌, ℕ, zero, suc, ◌+◌, ◌-◌, ◌*◌, ◌<◌, ◌≤◌, Bool, true, false, ◌&&◌, eqb, ltb, List, [], ◌∷◌, length, get_or, drop, Some, None, Option, Result, sym, refl, ap, ◌∙◌, subst, ap₂, add-zero, zero-add, arith}
 use Rattle.std.specs.Option.{option_map}
+use Rattle.std.specs.Result.{result_err}
+use Rattle.fault.specs.Faults.{judged}
 use Rattle.std.proofs.lemmas.List.{length-drop, length-take-le}
 use Rattle.std.proofs.lemmas.Bool.{both_ways, eqb-true, eqb-false, eq-eqb, lt-ltb, and_parts, and_from, ltb-true, cond-true, cond-false, le-leb, le-ltb}
 use Rattle.fault.specs.declared.faults.Fault.{Fault}
@@ -83,6 +85,14 @@ told due s = contents (ltb (5 * length due) (length s) && eqb (byte s 0) (length
     contents true e =
         let a = and_parts (ltb (5 * length due) (length s)) (eqb (byte s 0) (length due)) e in
         letters (record { room = ltb-true _ _ a.0; count = eqb-true _ _ a.1 }) (first_line (has_letter s) LetterFault 0 due) refl
+
+-- the same of what a test of the contents answered
+pub told_judged : (due : List Letter) (s : List ℕ) (r : Result (Unit {0}) Fault) → r ≡ judged (sheet_fault due s) → Told due s (result_err r)
+told_judged due s r e = subst (Told due s) (err_judged (sheet_fault due s) ∙ ap result_err (sym e)) (told due s)
+  where
+    err_judged : (o : Option Fault) → o ≡ result_err (judged o)
+    err_judged None = refl
+    err_judged (Some f) = refl
 
 -- where nothing is told, the sheet is as it should be
 pub fine : (due : List Letter) (s : List ℕ) → sheet_fault due s ≡ None → Fine due s

@@ -5,7 +5,6 @@ use Rattle.std.proofs.lemmas.Bool.{cond-false, le-ltb, eq-eqb, ne_eqb}
 use Rattle.fault.specs.declared.faults.Fault.{Fault}
 use Rattle.fault.specs.declared.faults.Fault.TheVariants.{BodyPlace}
 use Rattle.wiring.specs.Lists.{when_not, or_else}
-use Rattle.wiring.proofs.TopologyLaws.{none_some}
 use Rattle.sheet.specs.declared.letters.Letter.{Letter}
 use Rattle.sheet.specs.declared.letters.Letter.TheVariants.{L}
 use Rattle.sheet.specs.declared.reading.Line.{Line}
@@ -57,9 +56,6 @@ module _ (due : List Letter) (s : List ℕ) where
 module _ {rest : List ℕ} (s : List ℕ) (due : List Letter) (i : ℕ) (at : rest ≡ drop (5 * i + 1) s) (room : 5 * length due < length s) (more : i < length due) where
   whole : 5 ≤ length rest
   whole = rw at (simp length-drop (omega arith))
-
-  pub line_left : None ≡ next_line rest → ⊥
-  line_left e = none_some (sym e) (sym (next_whole rest whole))
 
   pub line_after : after_line rest ≡ drop (5 * (i + 1) + 1) s
   line_after =

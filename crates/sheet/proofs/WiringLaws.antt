@@ -1,6 +1,8 @@
 -- Wiring sheets: their links, and what one without a fault in its contents keeps to.
-use Rattle.std.proofs.Common.{◌≡◌, ℕ, ◌+◌, ◌<◌, ◌≤◌, List, [], ◌∷◌, ◌++◌, map, length, take, drop, set, Some, None, sym, ap, ◌∙◌, subst, ap₂, arith, lit<}
-use Rattle.std.proofs.lemmas.List.{take_more_set, map_push}
+use Rattle.std.proofs.Common.{◌≡◌, ℕ, zero, suc, ◌+◌, ◌*◌, ◌<◌, ◌≤◌, List, [], ◌∷◌, ◌++◌, map, length, get_or, take, drop, set, Some, None, sym, refl, ap, ◌∙◌, subst, ap₂, arith, lit<}
+use Rattle.std.specs.Simd.{first_chunks}
+use Rattle.std.proofs.lemmas.Grind.{common_steps}
+use Rattle.std.proofs.lemmas.List.{take_more_set, map_push, drop-drop}
 use Rattle.std.proofs.lemmas.Bool.{and_parts, leb-true}
 use Rattle.fault.specs.declared.faults.Fault.TheVariants.{Unjoined}
 use Rattle.wiring.specs.declared.links.Link.{Link}
@@ -25,6 +27,22 @@ links_more s links j l e =
     ∙ map_push ends_of (take j links) (fresh (link_in s j))
     ∙ ap (λ (xs : List (ℕ × ℕ)). xs ++ link_in s j ∷ []) e
     ∙ sym (ap (map (link_in s)) (range_push j) ∙ map_push (link_in s) (range 0 j) j)
+
+-- the bytes of link j, in a body that is cut into pairs
+module _ (s : List ℕ) where
+  pair_at : (n j : ℕ) (xs : List ℕ) → j < n → get_or (first_chunks 2 n xs) j [] ≡ take 2 (drop (2 * j) xs)
+  pair_at zero j xs h = absurd (omega arith)
+  pair_at (suc n) zero xs h = refl
+  pair_at (suc n) (suc j) xs h =
+      let e : 2 + 2 * j ≡ 2 * suc j = omega arith in
+      pair_at n j (drop 2 xs) (omega arith) ∙ ap (take 2) (drop-drop (2 * j) 2 xs ∙ ap (λ i. drop i xs) e)
+
+  pub pair_is : (pairs : List (List ℕ)) (n j : ℕ) → pairs ≡ first_chunks 2 n s → j < n → fresh (get_or (get_or pairs j []) 0 0, get_or (get_or pairs j []) 1 0) ≡ fresh (link_in s j)
+  pair_is pairs n j is h =
+      let e = ap (λ (ps : List (List ℕ)). get_or ps j []) is ∙ pair_at n j s h in
+      let first : get_or (take 2 (drop (2 * j) s)) 0 0 ≡ byte s (2 * j) = grind (arith, common_steps) in
+      let second : get_or (take 2 (drop (2 * j) s)) 1 0 ≡ byte s (2 * j + 1) = grind (arith, common_steps) in
+      ap₂ (λ a b. fresh (a, b)) (ap (λ (p : List ℕ). get_or p 0 0) e ∙ first) (ap (λ (p : List ℕ). get_or p 1 0) e ∙ second)
 
 -- what a reader hands out first is short enough
 pub few_links : {t rest b : List ℕ} (s : List ℕ) → sheet_fault wiring_letters s ≡ None → t ≡ s → rest ≡ drop 1 s → b ≡ next_body t rest → length b ≤ 240

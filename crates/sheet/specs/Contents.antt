@@ -40,9 +40,12 @@ place_fault due s =
     or_else (first_line (in_place (first_body due) s) BodyPlace 0 due) (when_not (due_at (first_body due) s (length due) == length s) (BodyPlace (length due - 1)) None)
 
 -- the first byte counts the lines, and all of them are there
+abbrev pub all_there : List Letter → List ℕ → Bool
+all_there due s = nat_lt (5 * length due) (length s) && byte s 0 == length due
+
 abbrev pub sheet_fault : List Letter → List ℕ → Option Fault
 sheet_fault due s =
-    when_not (nat_lt (5 * length due) (length s) && byte s 0 == length due) Contents
+    when_not (all_there due s) Contents
     (or_else (first_line (has_letter s) LetterFault 0 due) (or_else (place_fault due s) (first_line (has_size s) BodySize 0 due)))
 
 abbrev pub wiring_letters : List Letter

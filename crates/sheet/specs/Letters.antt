@@ -3,7 +3,6 @@ use Rattle.std.specs.Prelude.{ℕ, ◌%◌, Bool, true, cond, ◌&&◌, List, So
 use Rattle.sheet.specs.declared.letters.Letter.{Letter}
 use Rattle.sheet.specs.declared.letters.Letter.TheVariants.{L, N, V, P}
 use Rattle.sheet.specs.declared.sections.Section.{Section}
-use Rattle.sheet.specs.declared.sections.Section.TheVariants.{Links, Nodes, Layers, Plan}
 
 -- the byte of a letter
 abbrev pub code : Letter → ℕ
@@ -29,7 +28,4 @@ pub record Part : Type 0 where
   pub body : List ℕ
 
 abbrev pub part_of : Section → Part
-part_of (Links p b) = record { letter = L; place = p; body = b.now }
-part_of (Nodes p b) = record { letter = N; place = p; body = b.now }
-part_of (Layers p b) = record { letter = V; place = p; body = b.now }
-part_of (Plan p b) = record { letter = P; place = p; body = b.now }
+part_of s = record { letter = s.letter; place = s.place; body = s.body.now }

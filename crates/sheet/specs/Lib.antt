@@ -4,3 +4,4 @@ pub mod Contents
 pub mod Plans
 pub mod Written
 pub mod Wirings
+pub mod Readers

@@ -1,9 +1,10 @@
 // The letters of contents lines.
 ghost use Rattle.std.specs.Prelude.{◌≡◌};
-ghost use Rattle.sheet.specs.Letters.{code, fit_size};
+ghost use Rattle.std.specs.Result.{result_ok, IfErr};
+ghost use Rattle.sheet.specs.Letters.{code, letter_of, fit_size};
 
 /// What a line's body holds: links, the number of nodes, the number of layers, or the cells of a plan.
-#[derive(Clone, Copy)]
+#[derive(Clone, Copy, PartialEq, Eq, Debug)]
 pub enum Letter {
     L,
     N,
@@ -12,18 +13,6 @@ pub enum Letter {
 }
 
 impl Letter {
-    /// The byte that stands in the line.
-    pub fn byte(self) -> u8
-        ensures { result ≡ code self }
-    {
-        match self {
-            Letter::L => b'L',
-            Letter::N => b'N',
-            Letter::V => b'V',
-            Letter::P => b'P',
-        }
-    }
-
     /// Whether a body may have this length. The cells of a plan are held to its number of nodes instead.
     pub fn fits(self, size: usize) -> bool
         ensures { result ≡ fit_size self size }
@@ -32,6 +21,43 @@ impl Letter {
             Letter::L => size % 2 == 0 && size <= 240,
             Letter::N | Letter::V => size == 1,
             Letter::P => true,
+        }
+    }
+}
+
+/// The byte that stands in the line.
+impl From<Letter> for u8 {
+    ghost from_gives = { λ letter byte. byte ≡ code letter };
+
+    fn from(letter: Letter) -> u8 {
+        match letter {
+            Letter::L => b'L',
+            Letter::N => b'N',
+            Letter::V => b'V',
+            Letter::P => b'P',
+        }
+    }
+}
+
+/// A byte that stands for no letter.
+#[derive(Clone, Copy, PartialEq, Eq, Debug)]
+pub struct UnknownLetter {
+    pub byte: u8,
+}
+
+/// The letter that a byte stands for.
+impl TryFrom<u8> for Letter {
+    type Error = UnknownLetter;
+
+    ghost try_from_gives = { λ byte r. (result_ok r ≡ letter_of byte) × IfErr r (λ unknown. unknown.byte ≡ byte) };
+
+    fn try_from(byte: u8) -> Result<Letter, UnknownLetter> {
+        match byte {
+            b'L' => Ok(Letter::L),
+            b'N' => Ok(Letter::N),
+            b'V' => Ok(Letter::V),
+            b'P' => Ok(Letter::P),
+            _ => Err(UnknownLetter { byte }),
         }
     }
 }

@@ -11,8 +11,8 @@ mod sections;
 mod wirings;
 mod writing;
 
-pub use contents::sheet_fault;
-pub use letters::Letter;
+pub use contents::check_contents;
+pub use letters::{Letter, UnknownLetter};
 pub use plans::{PlanSheet, read_plan};
 pub use reading::{Line, Reader};
 pub use sections::Section;

@@ -4,13 +4,13 @@ ghost use Rattle.sheet.specs.Plans.{plan_of, plan_seen, cells_in, whole_plan, re
 ghost use Rattle.sheet.specs.Written.{OneSheet};
 
 use crate::reading::byte_at;
-use crate::{Letter, Reader, sheet_fault};
+use crate::{Letter, Reader, check_contents};
 use fault::Fault;
 use wiring::{Cell, Cells};
 
 /// The number of nodes, and the bytes of the cells: two a cell, channel and layer, destination by destination and node by node
 /// within each. 255, 255 is the empty cell.
-#[derive(Clone, Copy)]
+#[derive(Clone, Copy, PartialEq, Eq, Debug)]
 pub struct PlanSheet<'a> {
     pub nodes: u8,
     pub cells: &'a [u8],
@@ -21,12 +21,9 @@ impl Cells for PlanSheet<'_> {
 
     fn cell(&self, destination: u8, node: u8) -> Cell {
         let at = 2 * (self.nodes as usize * destination as usize + node as usize);
-        let channel = byte_at(self.cells, at);
-        let layer = byte_at(self.cells, at + 1);
-        if channel == 255 && layer == 255 {
-            Cell::Empty
-        } else {
-            Cell::Hop { channel, layer }
+        match (byte_at(self.cells, at), byte_at(self.cells, at + 1)) {
+            (255, 255) => Cell::Empty,
+            (channel, layer) => Cell::Hop { channel, layer },
         }
     }
 }
@@ -35,10 +32,7 @@ impl Cells for PlanSheet<'_> {
 fn whole_plan(nodes: u8, cells: &[u8]) -> Result<PlanSheet<'_>, Fault>
     ensures { plan_seen result ≡ whole_plan (record { nodes = nodes; cells = cells.now }) }
 {
-    if nodes < 1 {
-        return Err(Fault::NodeCount);
-    }
-    if nodes > 64 {
+    if !(1..=64).contains(&nodes) {
         return Err(Fault::NodeCount);
     }
     if cells.len() != 2 * nodes as usize * nodes as usize {
@@ -52,9 +46,7 @@ pub fn read_plan(bytes: &[u8]) -> Result<PlanSheet<'_>, Fault>
     ensures answer { plan_seen result ≡ read_plan bytes.now }
     ensures one_sheet { OneSheet (plan_seen result) bytes.now }
 {
-    if let Some(fault) = sheet_fault(bytes, &[Letter::N, Letter::P]) {
-        return Err(fault);
-    }
+    check_contents(bytes, &[Letter::N, Letter::P])?;
     let mut reader = Reader::new(bytes);
     let nodes = byte_at(reader.body(), 0);
     let cells = reader.body();

@@ -7,7 +7,7 @@ ghost use Rattle.wiring.specs.Wirings.{topology, seen};
 ghost use Rattle.sheet.specs.Wirings.{links_in, wired, wiring_in, read_wiring};
 
 use crate::reading::byte_at;
-use crate::{Letter, Reader, sheet_fault};
+use crate::{Letter, Reader, check_contents};
 use fault::Fault;
 use wiring::{Link, Wiring};
 
@@ -18,8 +18,9 @@ fn read_links(body: &[u8]) -> [Link; 120]
     ensures len { length result ≡ 120 }
 {
     let mut links = [Link::new(0, 0); 120];
-    for j in 0..body.len() / 2 {
-        links[j] = Link::new(body[2 * j], body[2 * j + 1]);
+    let (pairs, _) = body.as_chunks::<2>();
+    for (place, [first, second]) in pairs.iter().enumerate() {
+        links[place] = Link::new(*first, *second);
     }
     links
 }
@@ -31,7 +32,7 @@ fn whole_wiring(nodes: u8, layers: u8, body: &[u8]) -> Result<Wiring, Fault>
     ensures valid { MatchResult result (λ w. Valid (topology w)) (λ f. LowestTold (wired nodes layers body.now) f) }
 {
     let links = read_links(body);
-    Wiring::new(nodes, layers, &links[0..body.len() / 2])
+    Wiring::new(nodes, layers, &links[..body.len() / 2])
 }
 
 /// The wiring in a sheet, or the first fault of it.
@@ -39,9 +40,7 @@ pub fn read_wiring(bytes: &[u8]) -> Result<Wiring, Fault>
     ensures answer { seen result ≡ read_wiring bytes.now }
     ensures valid { MatchResult result (λ w. Valid (topology w)) (λ f. LowestTold (wiring_in bytes.now) f) }
 {
-    if let Some(fault) = sheet_fault(bytes, &[Letter::L, Letter::N, Letter::V]) {
-        return Err(fault);
-    }
+    check_contents(bytes, &[Letter::L, Letter::N, Letter::V])?;
     let mut reader = Reader::new(bytes);
     let links = reader.body();
     let nodes = byte_at(reader.body(), 0);

@@ -1,8 +1,10 @@
 // The sheet of a plan, written into lent memory.
-ghost use Rattle.std.specs.Prelude.{◌≡◌, ◌*◌, ◌≤◌, length};
+ghost use Rattle.std.specs.Prelude.{◌≡◌, ℕ, ◌*◌, ◌<◌, ◌≤◌, List, length};
+ghost use Rattle.std.specs.List.{flat_map};
 ghost use Rattle.wiring.specs.Lists.{range};
 ghost use Rattle.sheet.specs.Written.{cell_bytes, row_bytes, table_bytes, plan_head, write_answer, write_after, ReadsBack};
 
+use crate::Letter;
 use fault::Fault;
 use wiring::{Cell, Cells};
 
@@ -16,16 +18,32 @@ fn cell_bytes(cell: Cell) -> [u8; 2]
     }
 }
 
+/// Writes a part of the same width for each number below `count`, one behind the other.
+fn write_parts<F: Fn(u8, &mut [u8])>(count: u8, width: usize, memory: &mut [u8], write: F)
+    requires size { length memory.old ≡ width * count }
+    requires callable { (i : ℕ) (part : _) → i < count → length part.now ≡ width → F.pre write i part }
+    ensures { (bytes : ℕ → List ℕ) → ((i : ℕ) (part : _) (r : _) (after : _) → F.post write i part r after → after.now ≡ bytes i) → ((i : ℕ) → length (bytes i) ≡ width) → memory.new ≡ flat_map bytes (range 0 count) }
+{
+    // Tried with `chunks_exact_mut`; the proof does not close: it knows nothing of what is written through the chunks.
+    for i in 0..count {
+        let at = width * i as usize;
+        write(i, &mut memory[at..at + width]);
+    }
+}
+
 /// The cells of a destination, node by node.
 fn write_row<T: Cells>(nodes: u8, cells: &T, destination: u8, row: &mut [u8])
     requires { length row.old ≡ 2 * nodes }
     ensures { row.new ≡ row_bytes (T.Cells.meant cells.now) destination (range 0 nodes) }
 {
-    for node in 0..nodes {
-        let at = 2 * node as usize;
-        let bytes = cell_bytes(cells.cell(destination, node));
-        row[at..at + 2].copy_from_slice(&bytes);
-    }
+    write_parts(
+        nodes,
+        2,
+        row,
+        |node, part|
+            requires { length part.old ≡ 2 }
+        { part.copy_from_slice(&cell_bytes(cells.cell(destination, node))) },
+    );
 }
 
 /// The cells of a table, destination by destination.
@@ -33,11 +51,14 @@ fn write_table<T: Cells>(nodes: u8, cells: &T, table: &mut [u8])
     requires { length table.old ≡ 2 * nodes * nodes }
     ensures { table.new ≡ table_bytes (T.Cells.meant cells.now) (range 0 nodes) (range 0 nodes) }
 {
-    let width = 2 * nodes as usize;
-    for destination in 0..nodes {
-        let at = width * destination as usize;
-        write_row(nodes, cells, destination, &mut table[at..at + width]);
-    }
+    write_parts(
+        nodes,
+        2 * nodes as usize,
+        table,
+        |destination, row|
+            requires { length row.old ≡ 2 * nodes }
+        { write_row(nodes, cells, destination, row) },
+    );
 }
 
 /// What stands before the cells.
@@ -46,9 +67,22 @@ fn write_head(nodes: u8, head: &mut [u8])
     ensures { head.new ≡ plan_head nodes }
 {
     let size = 2 * nodes as usize * nodes as usize;
-    let high = (size / 256) as u8;
-    let low = (size % 256) as u8;
-    head.copy_from_slice(&[2, b'N', 0, 11, 0, 1, b'P', 0, 12, high, low, nodes]);
+    let [high, low] = (size as u16).to_be_bytes();
+    let (nodes_letter, cells_letter) = (u8::from(Letter::N), u8::from(Letter::P));
+    head.copy_from_slice(&[
+        2,
+        nodes_letter,
+        0,
+        11,
+        0,
+        1,
+        cells_letter,
+        0,
+        12,
+        high,
+        low,
+        nodes,
+    ]);
 }
 
 /// Writes the sheet of a plan for so many nodes, and answers its length. Nothing is written where it is refused, nor past the sheet.
@@ -57,10 +91,7 @@ pub fn write_plan<T: Cells>(nodes: u8, cells: &T, memory: &mut [u8]) -> Result<u
     ensures after { memory.new ≡ write_after nodes (T.Cells.meant cells.now) memory.old }
     ensures reads_back { ReadsBack nodes (T.Cells.meant cells.now) result memory.new }
 {
-    if nodes < 1 {
-        return Err(Fault::NodeCount);
-    }
-    if nodes > 64 {
+    if !(1..=64).contains(&nodes) {
         return Err(Fault::NodeCount);
     }
     let need = 12 + 2 * nodes as usize * nodes as usize;

@@ -1,10 +1,9 @@
 -- What a wiring's record says of the wiring.
-use Rattle.std.proofs.Common.{◌≡◌, ℕ, ◌/◌, ◌%◌, ◌<◌, ◌≤◌, Bool, true, false, cond, eqb, length, get_or, take, is_some, Some, None, Option, sym, refl, ap, ◌∙◌, arith}
-use Rattle.std.proofs.lemmas.List.{length-map, length-take-le, get_or-map, get_or-take, get_or_past}
-use Rattle.std.proofs.lemmas.Bool.Decides.{nat_tests}
+use Rattle.std.proofs.Common.{◌≡◌, ℕ, ◌/◌, ◌%◌, ◌≤◌, Bool, true, false, cond, eqb, length, take, is_some, Some, None, Option, sym, refl, ap, ◌∙◌, arith}
+use Rattle.std.proofs.lemmas.List.{length-map, length-take-le, get_or_past}
 use Rattle.wiring.specs.declared.wirings.Wiring.{Wiring}
-use Rattle.wiring.specs.Topologies.{Valid, partner, end_of, from, into}
-use Rattle.wiring.specs.Links.{ends_of, no_link}
+use Rattle.wiring.specs.Topologies.{Valid, end_of, from}
+use Rattle.wiring.specs.Links.{ends_of}
 use Rattle.wiring.specs.Wirings.{topology}
 use Rattle.wiring.specs.Soundness.{topology_fault}
 use Rattle.wiring.proofs.SoundnessLaws.{sound_valid}
@@ -21,24 +20,9 @@ valid w = sound_valid (topology w) (untold (topology_fault (topology w)) w.sound
 pub links_count : (w : Wiring) → length (topology w).links ≡ w.count
 links_count w = let h = w.held in let r = w.room in length-map (take w.count w.links) ends_of ∙ length-take-le w.count w.links (omega arith)
 
-pub link_at : (w : Wiring) (j : ℕ) → j < w.count → get_or (topology w).links j (0, 0) ≡ ends_of (get_or w.links j no_link)
-link_at w j l =
-    let h = w.held in
-    let r = w.room in
-    get_or-map ends_of (take w.count w.links) j no_link (0, 0) (omega (arith, length-take-le w.count w.links (omega arith))) ∙ ap ends_of (get_or-take w.count w.links j no_link l)
-
-pub from_at : (w : Wiring) (c j : ℕ) → j ≡ c / 2 → j < w.count → end_of c (ends_of (get_or w.links j no_link)) ≡ from (topology w) c
-from_at w c j e l = ap (end_of c) (sym (link_at w j l) ∙ ap (λ i. get_or (topology w).links i (0, 0)) e)
-
 nowhere : (b : Bool) → ◌≡◌ {A = ℕ} 0 (cond b 0 0)
 nowhere true = refl
 nowhere false = refl
 
 pub from_past : (w : Wiring) (c : ℕ) → w.count ≤ c / 2 → 0 ≡ from (topology w) c
 from_past w c l = nowhere (eqb (c % 2) 0) ∙ ap (end_of c) (sym (get_or_past (topology w).links (c / 2) (0, 0) (omega (arith, links_count w))))
-
-partner_past : (c : ℕ) → 240 ≤ c → 120 ≤ partner c / 2
-partner_past c l = grind (arith, nat_tests)
-
-pub into_past : (w : Wiring) (c : ℕ) → 240 ≤ c → 0 ≡ into (topology w) c
-into_past w c l = let r = w.room in let p = partner_past c l in from_past w (partner c) (omega arith)

@@ -63,9 +63,6 @@ pub record Listed (w : Topology) (n begin : ℕ) (was : List ℕ) (c : ℕ) (hel
   pub count : top ≡ begin + length (kept (at w n) c)
   pub front : take top held ≡ take begin was ++ kept (at w n) c
 
-pub listed_none : (w : Topology) (n begin : ℕ) (was : List ℕ) → Listed w n begin was 0 was begin
-listed_none w n begin was = record { count = omega arith; front = sym (append-nil (take begin was)) }
-
 module _ (w : Topology) (n begin : ℕ) (was : List ℕ) (c : ℕ) (held : List ℕ) (top : ℕ) (h : Listed w n begin was c held top) where
   pub listed_miss : (from w c ≡ n → ⊥) → Listed w n begin was (c + 1) held top
   listed_miss ne = let e = sym (kept_miss (at w n) c (ne_eqb _ _ ne)) in
@@ -81,9 +78,6 @@ module _ (w : Topology) (n begin : ℕ) (was : List ℕ) (c : ℕ) (held : List 
             ∙ append_assoc (take begin was) (kept (at w n) c) (c ∷ [])
             ∙ ap (λ (xs : List ℕ). take begin was ++ xs) (sym e);
       }
-
-  pub listed_all : c ≡ channels w → (top ≡ begin + length (own w n)) × (take top held ≡ take begin was ++ own w n)
-  listed_all e = (h.count ∙ ap (λ k. begin + length (kept (at w n) k)) e, h.front ∙ ap (λ k. take begin was ++ kept (at w n) k) e)
 
   pub listed_room : c < channels w → from w c ≡ n → top < begin + length (own w n)
   listed_room l q = let a = h.count in let b = kept_room (at w n) c (channels w) l (eq-eqb _ _ q) in omega arith

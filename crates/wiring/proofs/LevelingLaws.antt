@@ -1,6 +1,5 @@
 -- The levels below a root, in room for 64.
-use Rattle.std.proofs.Common.{◌≡◌, ℕ, ◌-◌, List, ◌++◌, map, length, drop, replicate, Some, None, Option, sym, ap, ◌∙◌, arith}
-use borrow.Rule.Slice.PartMut.{post_of}
+use Rattle.std.proofs.Common.{◌≡◌, ℕ, List, ◌++◌, map, length, drop, replicate, Some, None, Option, sym, ap, ◌∙◌, arith}
 use Rattle.std.proofs.lemmas.List.{drop-replicate, get_or_append_left}
 use Rattle.wiring.specs.declared.links.Link.{Link}
 use Rattle.wiring.specs.declared.wirings.Wiring.{Wiring}
@@ -24,9 +23,9 @@ module _ (w : Wiring) (ls : List Link) (same : ls ≡ map fresh (topology w).lin
   pub levels_held : (root : ℕ) → levels (drawn w.nodes 0 ls) root ≡ levels (topology w) root
   levels_held root = ap (λ (es : List (ℕ × ℕ)). levels (record { nodes = w.nodes; layers = 0; links = es }) root) links_same
 
-pub in_room : (n : ℕ) (ls target : List (Option ℕ)) → ls ≡ target → length ls ≡ n → ls ++ post_of 0 (n - 0) (replicate {A = Option ℕ} 64 None) ≡ padded target
+pub in_room : (n : ℕ) (ls target : List (Option ℕ)) → ls ≡ target → length ls ≡ n → ls ++ drop n (replicate {A = Option ℕ} 64 None) ≡ padded target
 in_room n ls target e l =
-    let z : n - 0 ≡ length ls = omega arith in
+    let z : n ≡ length ls = sym l in
     ap (λ m. ls ++ drop m (replicate {A = Option ℕ} 64 None)) z
     ∙ ap (λ (xs : List (Option ℕ)). ls ++ xs) (drop-replicate (length ls) 64 None)
     ∙ ap padded e

@@ -1,7 +1,7 @@
 -- A rule of a table, as a test that is computed at every entry.
-use Rattle.std.proofs.Common.{◌≡◌, ℕ, zero, suc, ◌+◌, ◌<◌, ◌≤◌, Bool, true, false, cond, ◌&&◌, eqb, ltb, List, [], ◌∷◌, length, get_or, Some, None, refl, arith}
-use Rattle.std.proofs.lemmas.Bool.{and_parts, ltb-false}
-use Rattle.wiring.specs.Topologies.{partner, partner_answer}
+use Rattle.std.proofs.Common.{◌≡◌, ℕ, zero, suc, ◌+◌, ◌<◌, Bool, true, ◌&&◌, eqb, ltb, List, [], ◌∷◌, length, get_or, arith}
+use Rattle.std.proofs.lemmas.Bool.{and_parts}
+use Rattle.wiring.specs.Topologies.{partner}
 
 -- the test passes at every entry, the first of which has the number i
 abbrev pub each : (ℕ → ℕ → Bool) → ℕ → List ℕ → Bool
@@ -20,11 +20,3 @@ each_at p xs e k l = from_each p 0 xs e k k l (omega arith)
 -- the entry of a channel is its partner, a channel whose partner is the channel
 abbrev pub right : ℕ → ℕ → Bool
 right k x = eqb x (partner k) && (ltb x 240 && eqb (partner x) k)
-
--- only from 240 on there is none
-pub no_partner : (c : ℕ) → None ≡ partner_answer c → 240 ≤ c
-no_partner c e = at (ltb c 240) refl e
-  where
-    at : (b : Bool) → ltb c 240 ≡ b → None ≡ cond b (Some (partner c)) None → 240 ≤ c
-    at true p q = let z : ◌≡◌ {A = ℕ} 0 1 = cc in absurd (omega arith)
-    at false p q = ltb-false c 240 p

@@ -1,9 +1,11 @@
 -- The rounds of the levels, link by link and node by node.
-use Rattle.std.proofs.Common.{◌≡◌, ℕ, suc, ◌+◌, ◌-◌, ◌*◌, ◌/◌, ◌%◌, ◌<◌, ◌≤◌, Bool, true, false, List, [], ◌∷◌, map, length, get_or, take, replicate, Some, None, Option, ap, ◌∙◌, ap₂, arith}
-use Rattle.std.proofs.lemmas.List.{get_or-map, length-map, take-replicate}
+use Rattle.std.proofs.Common.{◌≡◌, ℕ, suc, ◌+◌, ◌-◌, ◌*◌, ◌/◌, ◌%◌, ◌<◌, Bool, true, false, List, [], ◌∷◌, map, length, get_or, cond, Some, Option, sym, refl, ap, ◌∙◌, ap₂, add-one, add-zero, zero-add, arith}
+use Rattle.std.specs.List.{position, position_from}
+use Rattle.std.proofs.lemmas.List.{get_or-map}
+use Rattle.std.proofs.lemmas.Iterator.Adapters.{position_from-zero}
 use Rattle.wiring.specs.declared.links.Link.{Link}
 use Rattle.wiring.specs.Lists.{range, fold, first_that}
-use Rattle.wiring.specs.Levels.{spread, level_step, level_round}
+use Rattle.wiring.specs.Levels.{spread, level_step}
 use Rattle.wiring.specs.Links.{ends_of, no_link, drawn}
 use Rattle.wiring.proofs.SoundnessLaws.{from_even, from_odd, into_even, into_odd, link_of}
 
@@ -13,9 +15,6 @@ range_more i n l =
     let e : n - i ≡ suc (n - (i + 1)) = omega arith in
     let f : suc i ≡ i + 1 = omega arith in
     ap (range i) e ∙ ap (λ j. i ∷ range j (n - (i + 1))) f
-
-pub range_all : (i n : ℕ) → n ≤ i → range i (n - i) ≡ []
-range_all i n l = let e : n - i ≡ 0 = omega arith in ap (range i) e
 
 -- both channels of a link
 pub range_pair : (j k : ℕ) → j < k → range (2 * j) (2 * (k - j)) ≡ (2 * j) ∷ (2 * j + 1) ∷ range (2 * (j + 1)) (2 * (k - (j + 1)))
@@ -49,29 +48,16 @@ module _ (n k : ℕ) (ls : List Link) (j : ℕ) (l : j < length ls) where
 pub fold_more : {S : Type 0} (f : S → ℕ → S) (s : S) (i n : ℕ) → i < n → fold f s (range i (n - i)) ≡ fold f (f s i) (range (i + 1) (n - (i + 1)))
 fold_more f s i n l = ap (fold f s) (range_more i n l)
 
-pub fold_all : {S : Type 0} (f : S → ℕ → S) (s : S) (i n : ℕ) → n ≤ i → fold f s (range i (n - i)) ≡ s
-fold_all f s i n l = ap (fold f s) (range_all i n l)
+-- the first place of a list whose element passes, as the first number that does
+pub first_place : {X : Type 0} (p : X → Bool) (d : X) (q : ℕ → Bool) (xs : List X) → ((k : ℕ) → k < length xs → q k ≡ p (get_or xs k d)) → position p xs ≡ first_that q (range 0 (length xs))
+first_place {X} p d q xs same = position_from-zero p xs ∙ along 0 xs (λ k l. ap q (zero-add k) ∙ same k l)
+  where
+    head : (j : ℕ) (a b : Bool) (r s : Option ℕ) → a ≡ b → r ≡ s → cond a (Some j) r ≡ elim b [ true ↦ Some j | false ↦ s ]
+    head j true b r s e f = rw (← e) refl
+    head j false b r s e f = rw (← e) f
 
--- the first that passes, from i on
-pub first_here : (p : ℕ → Bool) (i n : ℕ) → i < n → p i ≡ true → first_that p (range i (n - i)) ≡ Some i
-first_here p i n l e = ap (first_that p) (range_more i n l) ∙ rw (first_that, e)
-
-pub first_later : (p : ℕ → Bool) (i n : ℕ) → i < n → p i ≡ false → first_that p (range i (n - i)) ≡ first_that p (range (i + 1) (n - (i + 1)))
-first_later p i n l e = ap (first_that p) (range_more i n l) ∙ rw (first_that, e)
-
-pub first_none : (p : ℕ → Bool) (i n : ℕ) → n ≤ i → first_that p (range i (n - i)) ≡ None
-first_none p i n l = ap (first_that p) (range_all i n l)
-
--- at the start and at the end of a round
-pub round_none : (n k : ℕ) (ls : List Link) (i : ℕ) (acc : List (Option ℕ)) → fold (level_step (drawn n k ls) i) acc (range (2 * 0) (2 * (length ls - 0))) ≡ level_round (drawn n k ls) acc i
-round_none n k ls i acc =
-    let e : 2 * (length ls - 0) ≡ 2 * length (map ends_of ls) = omega (arith, length-map ls ends_of) in
-    ap (λ m. fold (level_step (drawn n k ls) i) acc (range 0 m)) e
-
-pub round_all : (n k : ℕ) (ls : List Link) (i j : ℕ) (acc : List (Option ℕ)) → length ls ≤ j → fold (level_step (drawn n k ls) i) acc (range (2 * j) (2 * (length ls - j))) ≡ acc
-round_all n k ls i j acc l =
-    let e : 2 * (length ls - j) ≡ 0 = omega arith in
-    ap (λ m. fold (level_step (drawn n k ls) i) acc (range (2 * j) m)) e
-
-pub blank : (n : ℕ) → n ≤ 64 → take (n - 0) (replicate {A = Option ℕ} 64 None) ≡ replicate n None
-blank n l = let e : n - 0 ≡ n = omega arith in ap (λ m. take m (replicate {A = Option ℕ} 64 None)) e ∙ take-replicate n 64 None l
+    along : (j : ℕ) (ys : List X) → ((k : ℕ) → k < length ys → q (j + k) ≡ p (get_or ys k d)) → position_from p j ys ≡ first_that q (range j (length ys))
+    along j [] h = refl
+    along j (y ∷ ys) h =
+        let rest = along (suc j) ys (λ k l. let e : suc j + k ≡ j + suc k = omega arith in ap q e ∙ h (suc k) (omega arith)) in
+        head j (p y) (q j) _ _ (sym (h 0 (omega arith)) ∙ ap q (add-zero j)) (ap (λ i. position_from p i ys) (add-one j) ∙ rest)

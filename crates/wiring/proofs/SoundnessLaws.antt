@@ -1,7 +1,7 @@
 -- A wiring in which nothing is wrong is valid; and the node told as unjoined is the lowest that no walk joins to node 0.
 use Rattle.std.proofs.Common.{◌≡◌, ℕ, zero, suc, ◌+◌, ◌-◌, ◌/◌, ◌%◌, ◌<◌, ◌≤◌, Bool, true, false, not, ◌&&◌, eqb, ltb, leb, ◌⊎◌, List, [], ◌∷◌, length, get_or, is_some, Some, None, Option, sym, refl, ap, ◌∙◌, subst, inl, inr, ⊎_elim, arith}
 use Rattle.std.specs.Option.{option_map}
-use Rattle.std.proofs.lemmas.Bool.{eqb-false, ne_eqb, eq-eqb, and_parts, cases_eq, not-true, cond-true, cond-false, ltb-true, leb-true, le-leb, cases_Bool}
+use Rattle.std.proofs.lemmas.Bool.{eqb-false, ne_eqb, eq-eqb, and_parts, cases_eq, not-true, cond-true, cond-false, ltb-true, leb-true, cases_Bool}
 use Rattle.fault.specs.declared.faults.Fault.{Fault}
 use Rattle.fault.specs.declared.faults.Fault.TheVariants.{BodySize, NodeCount, LayerCount, LinkEnds, Unjoined}
 use Rattle.wiring.specs.Lists.{when_not, or_else}
@@ -159,6 +159,3 @@ told_unjoined w n e =
     lowest_unjoined w (λ c l. (ends c l).0) (among_parts 1 64 w.nodes b.0).0 n d.1
 
 -- where the numbers are in order, the links decide
-pub links_decide : (w : Topology) → length w.links ≤ 120 → among 1 64 w.nodes ≡ true → among 1 8 w.layers ≡ true
-    → topology_fault w ≡ or_else (option_map LinkEnds (bad_link w.nodes 0 w.links)) (option_map Unjoined (unjoined w))
-links_decide w l n k = let e = le-leb (length w.links) 120 l in rw (e, n, k, topology_fault)

@@ -38,7 +38,7 @@ impl Wiring {
     pub fn links(&self) -> &[Link]
         ensures { result.now ≡ map fresh (topology self.now).links }
     {
-        &self.links[0..self.count as usize]
+        &self.links[..self.count as usize]
     }
 
     /// The number of channels, two for each link.
@@ -52,12 +52,9 @@ impl Wiring {
     pub fn from(&self, channel: u8) -> u8
         ensures { result ≡ from (topology self.now) channel }
     {
-        let j = channel / 2;
-        if j < self.count {
-            let link = self.links[j as usize];
-            start(link, channel)
-        } else {
-            0
+        match self.links().get(channel as usize / 2) {
+            Some(link) => start(*link, channel),
+            None => 0,
         }
     }
 

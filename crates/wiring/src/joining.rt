@@ -1,5 +1,5 @@
 // Which nodes are joined to node 0.
-ghost use Rattle.std.specs.Prelude.{◌≡◌, ℕ, ◌<◌, ◌≤◌, length, replicate, Some, None, slice_set};
+ghost use Rattle.std.specs.Prelude.{◌≡◌, ℕ, ◌<◌, ◌≤◌, length, replicate, Some, None, slice_set, is_some, not, position};
 ghost use Rattle.wiring.specs.Links.{drawn, EndsWithin};
 ghost use Rattle.wiring.specs.Levels.{spread, level_round, levels};
 ghost use Rattle.wiring.specs.Soundness.{unjoined};
@@ -19,18 +19,6 @@ fn offer(ranks: &mut [Option<u8>], round: u8, start: u8, end: u8)
     }
 }
 
-/// One round, over both channels of every link.
-fn run_round(links: &[Link], ranks: &mut [Option<u8>], round: u8)
-    requires within { EndsWithin (length ranks.old) links.now × (round < 64) }
-    ensures after { ranks.new ≡ level_round (drawn 0 0 links.now) ranks.old round }
-{
-    for j in 0..links.len() {
-        let link = links[j];
-        offer(ranks, round, link.first, link.second);
-        offer(ranks, round, link.second, link.first);
-    }
-}
-
 /// The root is at level 0, if there is such a node.
 fn begin(ranks: &mut [Option<u8>], root: u8)
     ensures { ranks.new ≡ slice_set ranks.old root (Some 0) }
@@ -40,30 +28,52 @@ fn begin(ranks: &mut [Option<u8>], root: u8)
     }
 }
 
-/// Every node's level below the root, where there was none.
-pub(crate) fn find_levels(nodes: u8, links: &[Link], ranks: &mut [Option<u8>], root: u8)
-    requires within { EndsWithin nodes links.now × (nodes ≤ 64) × (length ranks.old ≡ nodes) }
-    requires empty { ranks.old ≡ replicate nodes None }
-    ensures after { ranks.new ≡ levels (drawn nodes 0 links.now) root }
+/// The place of the first node with no level.
+fn first_gap(ranks: &[Option<u8>]) -> Option<usize>
+    ensures { result ≡ position (λ rank. not (is_some rank)) ranks.now }
 {
-    begin(ranks, root);
-    for round in 0..nodes {
-        run_round(links, ranks, round);
-    }
+    ranks.iter().position(Option::is_none)
 }
 
-/// The lowest node that no walk joins to node 0.
-pub(crate) fn first_unjoined(nodes: u8, links: &[Link]) -> Option<u8>
-    requires within { EndsWithin nodes links.now × (1 ≤ nodes) × (nodes ≤ 64) }
-    ensures { result ≡ unjoined (drawn nodes 0 links.now) }
-{
-    let mut room = [None; 64];
-    let ranks = &mut room[0..nodes as usize];
-    find_levels(nodes, links, ranks, 0);
-    for n in 0..nodes {
-        if ranks[n as usize].is_none() {
-            return Some(n);
+/// Nodes, and links between them.
+#[derive(Clone, Copy)]
+pub(crate) struct Graph<'a> {
+    pub(crate) nodes: u8,
+    pub(crate) links: &'a [Link],
+    ghost few: { nodes ≤ 64 },
+    ghost within: { EndsWithin nodes links.now },
+}
+
+impl Graph<'_> {
+    /// One round, over both channels of every link.
+    fn run_round(&self, ranks: &mut [Option<u8>], round: u8)
+        requires { (length ranks.old ≡ self.now.nodes) × (round < 64) }
+        ensures { ranks.new ≡ level_round (drawn 0 0 self.now.links.now) ranks.old round }
+    {
+        for link in self.links {
+            offer(ranks, round, link.first, link.second);
+            offer(ranks, round, link.second, link.first);
         }
     }
-    None
+
+    /// Every node's level below the root, where there was none.
+    pub(crate) fn find_levels(&self, ranks: &mut [Option<u8>], root: u8)
+        requires { ranks.old ≡ replicate self.now.nodes None }
+        ensures { ranks.new ≡ levels (drawn self.now.nodes 0 self.now.links.now) root }
+    {
+        begin(ranks, root);
+        for round in 0..self.nodes {
+            self.run_round(ranks, round);
+        }
+    }
+
+    /// The lowest node that no walk joins to node 0.
+    pub(crate) fn first_unjoined(&self) -> Option<u8>
+        ensures { result ≡ unjoined (drawn self.now.nodes 0 self.now.links.now) }
+    {
+        let mut room = [None; 64];
+        let ranks = &mut room[..self.nodes as usize];
+        self.find_levels(ranks, 0);
+        first_gap(ranks).map(|node| node as u8)
+    }
 }

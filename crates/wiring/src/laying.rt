@@ -14,6 +14,7 @@ fn list_own(wiring: &Wiring, held: &mut [u8], node: u8, begin: u8) -> u8
     ensures after { take result held.new ≡ take begin held.old ++ own (topology wiring.now) node }
 {
     let count = wiring.channels();
+    // No `Vec` to push to: memory is fixed.
     let mut top = begin;
     for c in 0..count {
         if wiring.from(c) != node {
@@ -31,6 +32,7 @@ fn list_all(wiring: &Wiring, held: &mut [u8], begins: &mut [u8])
     ensures begun { (i : ℕ) → i < 65 → slice_index begins.new i ≡ length (laid (topology wiring.now) i) }
     ensures after { take (length (laid (topology wiring.now) 64)) held.new ≡ laid (topology wiring.now) 64 }
 {
+    // Not over `begins` itself: each turn reads one entry and writes the next.
     for n in 0..64u8 {
         let begin = begins[n as usize];
         begins[n as usize + 1] = list_own(wiring, held, n, begin);

@@ -3,7 +3,7 @@ ghost use Rattle.std.specs.Prelude.{◌≡◌};
 ghost use Rattle.wiring.specs.Levels.{levels, padded, LevelsLeast};
 ghost use Rattle.wiring.specs.Wirings.{topology};
 
-use crate::joining::find_levels;
+use crate::joining::Graph;
 use crate::wirings::Wiring;
 
 impl Wiring {
@@ -13,12 +13,11 @@ impl Wiring {
         ensures least { LevelsLeast (topology self.now) root result }
     {
         let mut ranks = [None; 64];
-        find_levels(
-            self.nodes,
-            self.links(),
-            &mut ranks[0..self.nodes as usize],
-            root,
-        );
+        let graph = Graph {
+            nodes: self.nodes,
+            links: self.links(),
+        };
+        graph.find_levels(&mut ranks[..self.nodes as usize], root);
         ranks
     }
 }

@@ -8,7 +8,7 @@ use crate::own::Ports;
 use crate::wirings::Wiring;
 
 /// A wiring, and the own channels of its nodes, found once.
-#[derive(Drop)]
+#[derive(Debug, Drop)]
 pub struct Network<'a> {
     pub(crate) wiring: &'a Wiring,
     pub(crate) ports: Ports,

@@ -4,6 +4,7 @@ ghost use Rattle.wiring.specs.Topologies.{partner_answer};
 ghost use Rattle.wiring.specs.Pairing.{Paired};
 
 /// The partner of each of the 240 channels that wirings can have.
+// Written out and not computed: it is compared with the table printed on a cabinet.
 pub const PARTNER: [u8; 240] = [
     1, 0, 3, 2, 5, 4, 7, 6, 9, 8, 11, 10, 13, 12, 15, 14, 17, 16, 19, 18, 21, 20, 23, 22, 25, 24,
     27, 26, 29, 28, 31, 30, 33, 32, 35, 34, 37, 36, 39, 38, 41, 40, 43, 42, 45, 44, 47, 46, 49, 48,
@@ -24,9 +25,5 @@ pub fn partner_of(channel: u8) -> Option<u8>
     ensures answer { result ≡ partner_answer channel }
     ensures paired { Paired channel result }
 {
-    if channel < 240 {
-        Some(PARTNER[channel as usize])
-    } else {
-        None
-    }
+    PARTNER.get(channel as usize).copied()
 }

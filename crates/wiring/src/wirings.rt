@@ -7,10 +7,11 @@ ghost use Rattle.wiring.specs.Soundness.{topology_fault};
 use crate::links::Link;
 
 /// A wiring in which nothing is wrong: its links join different nodes, and every node is joined to node 0.
-#[derive(Drop)]
+#[derive(Debug, Drop)]
 pub struct Wiring {
     pub(crate) nodes: u8,
     pub(crate) layers: u8,
+    /// How many of the links there are. Memory is fixed, so they lie in an array with room for all, and not in a `Vec`.
     pub(crate) count: u8,
     pub(crate) links: [Link; 120],
     ghost few: { nodes ≤ 64 },

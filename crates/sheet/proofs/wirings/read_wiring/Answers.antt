@@ -1,23 +1,28 @@
-use Rattle.std.proofs.Common.{Some, sym, ap, ◌∙◌, subst, lit<, rules, MatchResult}
+use Rattle.std.proofs.Common.{Some, sym, ap, ◌∙◌, subst, refl, lit<, MatchResult}
+use Rattle.std.proofs.lemmas.Result.{err_from_is_err_and}
 use Rattle.wiring.specs.Soundness.{sound_answer, LowestTold}
 use Rattle.wiring.specs.Topologies.{Topology, Valid}
 use Rattle.wiring.specs.Wirings.{topology}
+use Rattle.wiring.proofs.MakingLaws.{none_judged, some_judged}
 use Rattle.sheet.specs.Contents.{wiring_letters}
 use Rattle.sheet.proofs.LineLaws.{line_after}
 use Rattle.sheet.proofs.ContentsLaws.{fine, body_there}
 use Rattle.sheet.proofs.WiringLaws.{few_links, wiring_is, read_is, never_unjoined}
 use Rattle.sheet.proofs.wirings.read_wiring.Goals as goal
 
-pub returns-in-Some : goal.returns-in-Some
-returns-in-Some c = record { answer = search rules; valid = λ n e. absurd (never_unjoined wiring_letters c.args.bytes.now n (sym c.in-Some.ensures.answer ∙ ap Some e)) }
+pub returns-in_err-check_contents : goal.returns-in_err-check_contents
+returns-in_err-check_contents c =
+    let p = err_from_is_err_and c.from_residual.result c.from_residual.ensures.1 in
+    let told = some_judged _ _ c.in_err-check_contents.ensures.answer in
+    rw (p.1, p.2) (record { answer = rw (← told) refl; valid = λ n e. absurd (never_unjoined wiring_letters c.args.bytes.now n (sym told ∙ ap Some e)) })
 
 pub whole_wiring-requires : goal.whole_wiring-requires
-whole_wiring-requires c = few_links c.args.bytes.now (sym c.in_default.ensures.answer) c.new-reader.ensures.sheet c.new-reader.ensures.rest c.body-links.ensures.answer
+whole_wiring-requires c = few_links c.args.bytes.now (sym (none_judged _ c.in_ok-check_contents.ensures.answer)) c.new-reader.ensures.sheet c.new-reader.ensures.rest c.body-links.ensures.answer
 
 pub returns : goal.returns
 returns c =
     let s = c.args.bytes.now in
-    let none = sym c.in_default.ensures.answer in
+    let none = sym (none_judged _ c.in_ok-check_contents.ensures.answer) in
     let f = fine wiring_letters s none in
     let second = c.body-links.ensures.rest ∙ line_after s wiring_letters 0 c.new-reader.ensures.rest f.whole.room (lit< tt) in
     let third = c.body.ensures.rest ∙ line_after s wiring_letters 1 second f.whole.room (lit< tt) in

@@ -1,5 +1,5 @@
-use Rattle.std.proofs.Common.{◌≡◌, ℕ, ◌-◌, ◌/◌, List, map, length, take, ap, ◌∙◌, subst, arith, MatchResult}
-use Rattle.wiring.specs.Links.{ends_of, drawn}
+use Rattle.std.proofs.Common.{◌≡◌, ℕ, ◌/◌, List, length, take, ap, ◌∙◌, subst, MatchResult}
+use Rattle.wiring.specs.Links.{drawn}
 use Rattle.wiring.specs.Soundness.{sound_answer, LowestTold}
 use Rattle.wiring.specs.Topologies.{Topology, Valid}
 use Rattle.wiring.specs.Wirings.{topology}
@@ -11,9 +11,7 @@ returns c =
     let n = c.args.nodes in
     let k = c.args.layers in
     let s = c.args.body.now in
-    let r = c.read_links-links.result in
-    let all : length s / 2 - 0 ≡ length s / 2 = omega arith in
-    let same : drawn n k (take (length s / 2 - 0) r) ≡ wired n k s = ap (λ (es : List (ℕ × ℕ)). record { nodes = n; layers = k; links = es }) (ap (λ m. map ends_of (take m r)) all ∙ c.read_links-links.ensures.front) in
+    let same : drawn n k (take (length s / 2) c.read_links-links.result) ≡ wired n k s = ap (λ (es : List (ℕ × ℕ)). record { nodes = n; layers = k; links = es }) c.read_links-links.ensures.front in
     record {
       answer = c.new.ensures.answer ∙ ap sound_answer same;
       valid = subst (λ (w : Topology). MatchResult c.new.result (λ v. Valid (topology v)) (λ f. LowestTold w f)) same c.new.ensures.valid;

@@ -1,10 +1,7 @@
 use Rattle.std.proofs.Common.{◌<◌, sym, ◌∙◌, arith}
 use Rattle.wiring.specs.Wirings.{topology}
-use Rattle.wiring.proofs.LaidLaws.{listed_none, listed_miss, listed_hit, listed_room, listed_all}
+use Rattle.wiring.proofs.LaidLaws.{listed_miss, listed_hit, listed_room}
 use Rattle.wiring.proofs.laying.list_own.Goals as goal
-
-pub loop-c-init : goal.loop-c-init
-loop-c-init c = listed_none (topology c.args.wiring.now) c.args.node c.args.begin c.args.held.now
 
 pub loop-c-preserved-then-from-node : goal.loop-c-preserved-then-from-node
 loop-c-preserved-then-from-node c =
@@ -21,14 +18,8 @@ room c =
     let h = listed_room (topology c.args.wiring.now) c.args.node c.args.begin c.args.held.now l.c l.held l.top l.invariant (omega arith) (sym c.from.ensures ∙ c.if-from-node.false) in
     omega arith
 
-pub overflow_cast-held : goal.overflow_cast-held
-overflow_cast-held c = let h = room c in omega arith
-
 pub bounds-held-top : goal.bounds-held-top
 bounds-held-top c = let h = room c in let long = c.loop-c.auto.held in let size = c.requires.room.0 in omega arith
-
-pub overflow_add-top : goal.overflow_add-top
-overflow_add-top c = let h = room c in omega arith
 
 pub loop-c-preserved : goal.loop-c-preserved
 loop-c-preserved c =
@@ -37,11 +28,3 @@ loop-c-preserved c =
     let long = c.loop-c.auto.held in
     let size = c.requires.room.0 in
     listed_hit (topology c.args.wiring.now) c.args.node c.args.begin c.args.held.now l.c l.held l.top l.invariant (omega arith) (sym c.from.ensures ∙ c.if-from-node.false)
-
-pub returns : goal.returns
-returns c =
-    let l = c.loop-c in
-    let count = c.channels-count.ensures in
-    let end = c.loop-c-test.false in
-    let h = listed_all (topology c.args.wiring.now) c.args.node c.args.begin c.args.held.now l.c l.held l.top l.invariant (omega arith) in
-    record { end = h.0; after = h.1 }

@@ -1,12 +1,17 @@
-use Rattle.std.proofs.Common.{sym, ◌∙◌, arith}
-use Rattle.wiring.proofs.MakingLaws.{bad_here, bad_later, bad_none}
+use Rattle.std.proofs.Common.{◌≡◌, not, ◌∙◌, rules}
+use Rattle.std.proofs.lemmas.Iterator.{YieldsList-from_slice}
+use Rattle.std.proofs.lemmas.Iterator.Search.{position_from_yields_List}
+use borrow.Author.Tests.{tests}
+use Rattle.wiring.specs.declared.links.Link.{Link}
+use Rattle.wiring.specs.Links.{ends_of}
+use Rattle.wiring.specs.Soundness.{fine_link}
+use Rattle.wiring.proofs.MakingLaws.{bad_place}
 use Rattle.wiring.proofs.making.first_bad.Goals as goal
 
-pub returns-then-not-is_fine : goal.returns-then-not-is_fine
-returns-then-not-is_fine c = sym (c.loop-j.invariant ∙ bad_here c.args.nodes c.loop-j.j c.args.links.now (omega arith) (sym c.if-not-is_fine.ensures))
-
-pub loop-j-preserved : goal.loop-j-preserved
-loop-j-preserved c = c.loop-j.invariant ∙ bad_later c.args.nodes c.loop-j.j c.args.links.now (omega arith) (sym c.if-not-is_fine.ensures)
-
 pub returns : goal.returns
-returns c = sym (c.loop-j.invariant ∙ bad_none c.args.nodes c.loop-j.j c.args.links.now (omega arith))
+returns c =
+    let n = c.args.nodes in
+    let ls = c.args.links.now in
+    let at = position_from_yields_List (λ (l : Link). not (fine_link n (ends_of l))) _ _ c.position.result c.position.ensures.ran (YieldsList-from_slice ls (cc)) (λ x b q k. search (rules, tests)) in
+    let same : c.map.result ≡ c.position.result = search rules in
+    same ∙ at ∙ bad_place n ls
