@@ -1,5 +1,5 @@
 // Costs by hops.
-ghost use Rattle.std.specs.Prelude.{◌≤◌};
+ghost use Rattle.std.specs.Prelude.{◌≡◌, ◌≤◌};
 ghost use Rattle.cost.specs.Steps.{most_hops, up_to};
 ghost use Rattle.cost.specs.Bounds.{zero_fits, up_to_fits};
 ghost use Rattle.std.proofs.Common.{rules, arith};
@@ -9,8 +9,17 @@ use crate::kinds::Cost;
 /// The number of channels, which stops at 65,535.
 #[derive(Clone, Copy, PartialEq, Eq, PartialOrd, Ord)]
 pub struct Hops {
-    pub(crate) count: u16,
+    count: u16,
     ghost few: { count ≤ most_hops },
+}
+
+impl Hops {
+    /// The number of channels.
+    pub fn count(&self) -> u16
+        ensures { result ≡ self.now.count }
+    {
+        self.count
+    }
 }
 
 impl Cost for Hops {

@@ -19,9 +19,12 @@ pub trait Cost: Copy + Ord {
     fn step(self, load: u32) -> Self
         ensures { result ≡ stepped self load };
 
+    /// Costs that compare equal are one and the same.
     ghost identical: { (x y : Self) → Self.cmp x y ≡ Equal → x ≡ y };
 
+    /// A step never lowers a cost.
     ghost rises: { (x : Self) (n : ℕ) → at_most Self.cmp x (stepped x n) ≡ true };
 
+    /// A step keeps the order of two costs.
     ghost keeps: { (x y : Self) (n : ℕ) → at_most Self.cmp x y ≡ true → at_most Self.cmp (stepped x n) (stepped y n) ≡ true };
 }

@@ -1,5 +1,5 @@
 // Costs by load.
-ghost use Rattle.std.specs.Prelude.{◌≤◌};
+ghost use Rattle.std.specs.Prelude.{◌≡◌, ◌≤◌};
 ghost use Rattle.cost.specs.Steps.{most_load, up_to};
 ghost use Rattle.cost.specs.Bounds.{zero_fits, up_to_fits};
 ghost use Rattle.std.proofs.Common.{rules, arith};
@@ -9,8 +9,17 @@ use crate::kinds::Cost;
 /// The loads of the channels added up, which stops at 4,294,967,295.
 #[derive(Clone, Copy, PartialEq, Eq, PartialOrd, Ord)]
 pub struct Load {
-    pub(crate) total: u32,
+    total: u32,
     ghost light: { total ≤ most_load },
+}
+
+impl Load {
+    /// The loads added up.
+    pub fn total(&self) -> u32
+        ensures { result ≡ self.now.total }
+    {
+        self.total
+    }
 }
 
 impl Cost for Load {

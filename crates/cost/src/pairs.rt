@@ -9,11 +9,27 @@ use crate::kinds::Cost;
 /// Hops first, then load; 65,535 hops go only with the greatest load, so that a step keeps the order of two costs.
 #[derive(Clone, Copy, PartialEq, Eq, PartialOrd, Ord)]
 pub struct HopsThenLoad {
-    pub(crate) hops: u16,
-    pub(crate) load: u32,
+    hops: u16,
+    load: u32,
     ghost few: { hops ≤ most_hops },
     ghost light: { load ≤ most_load },
     ghost spent: { (most_hops ≤ hops → load ≡ most_load) },
+}
+
+impl HopsThenLoad {
+    /// The number of channels.
+    pub fn hops(&self) -> u16
+        ensures { result ≡ self.now.hops }
+    {
+        self.hops
+    }
+
+    /// The loads added up; the greatest load, once the hops are the greatest.
+    pub fn load(&self) -> u32
+        ensures { result ≡ self.now.load }
+    {
+        self.load
+    }
 }
 
 impl Cost for HopsThenLoad {

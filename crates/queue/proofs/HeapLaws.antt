@@ -1,5 +1,5 @@
 -- The queue stays in order: by the library's laws of heaps.
-use Rattle.std.proofs.Common.{◌≡◌, ℕ, ◌+◌, ◌-◌, ◌<◌, Bool, false, List, [], ◌∷◌, ◌++◌, length, get_or, take, drop, set, refl, sym, ap, ◌∙◌, subst, append_assoc, arith}
+use Rattle.std.proofs.Common.{◌≡◌, ℕ, ◌+◌, ◌-◌, ◌<◌, Bool, false, List, [], ◌∷◌, ◌++◌, length, get_or, take, drop, set, sym, ap, ◌∙◌, subst, append_assoc, arith}
 use Rattle.std.specs.declared.cmp.Ordering.{Ordering}
 use Rattle.std.specs.Cmp.{IsTotalOrder}
 use Rattle.std.specs.List.{AllByRecursion}
@@ -21,8 +21,8 @@ module _ {K : Type 0} (cmp : K → K → Ordering) where
   at_front run rest n long h = record { within = omega (arith, length-append run rest); heaped = subst (IsHeap (later cmp)) (sym (take_at run rest n long)) h }
 
   module _ (order : IsTotalOrder cmp) where
-    pub none_ordered : (xs : List (Entry K)) → Ordered cmp xs 0
-    none_ordered xs = record { within = omega arith; heaped = empty (later_total cmp order) (take 0 xs) refl }
+    pub none_ordered : (xs : List (Entry K)) (n : ℕ) → n ≡ 0 → Ordered cmp xs n
+    none_ordered xs n e = record { within = omega arith; heaped = empty (later_total cmp order) (take n xs) (ap (λ i. take i xs) e) }
 
     pub push_ordered : (xs : List (Entry K)) (n k : ℕ) (x : Entry K) (more : n < length xs) (is : k ≡ n + 1) (run : List (Entry K)) → IsPermutation (take k (set xs n x)) run → SiftsUp (later cmp) (take k (set xs n x)) (length (take k (set xs n x)) - 1) run → Ordered cmp xs n → Ordered cmp (run ++ drop k (set xs n x)) (n + 1)
     push_ordered xs n k x more is run moved rises was =

@@ -79,10 +79,14 @@ module _ {K : Type 0} (cmp : K → K → Ordering) where
           by (inr f) (inl t) = inr (inr t)
           by (inr f) (inr e) = inr (inl (neither_sooner a b f e))
 
+    -- the same of the other way round, where the entry at a comes sooner
+    pub won : (xs : List (Entry K)) (a b : ℕ) → ((d : Entry K) → true ≡ sooner cmp (get_or xs a d) (get_or xs b d)) → ComparesAt (later cmp) xs a b false
+    won xs a b test d = (ranks later_total).one_way (get_or xs b d) (get_or xs a d) (compared xs a b true test d)
+
     -- of the children c and o of p, c comes first where o, if it is there, does not come sooner
-    pub first_of_two : (xs : List (Entry K)) (p c o n : ℕ) → p * 2 + 1 ≤ c → c ≤ p * 2 + 2 → c + o ≡ p * 4 + 3 → ((d : Entry K) → o < n → lt_by_cmp (later cmp) (get_or xs c d) (get_or xs o d) ≡ false) → IsGreaterChild (later cmp) xs p c n
+    pub first_of_two : (xs : List (Entry K)) (p c o n : ℕ) → ((d : Entry K) → o < n → lt_by_cmp (later cmp) (get_or xs c d) (get_or xs o d) ≡ false) → p * 2 + 1 ≤ c → c ≤ p * 2 + 2 → c + o ≡ p * 4 + 3 → IsGreaterChild (later cmp) xs p c n
     unfolding IsGreaterChild
-    first_of_two xs p c o n from to both test = λ k d a b l. ⊎_elim
+    first_of_two xs p c o n test from to both = λ k d a b l. ⊎_elim
         (λ (e : k ≡ c). ap (λ m. lt_by_cmp (later cmp) (get_or xs c d) (get_or xs m d)) e ∙ ap is_lt (tied_itself later_total (get_or xs c d)))
         (λ u. let e : k ≡ o = omega arith in ap (λ m. lt_by_cmp (later cmp) (get_or xs c d) (get_or xs m d)) e ∙ test d (omega arith))
         (cases_eq k c)
