@@ -6,7 +6,8 @@ use Rattle.std.specs.Ordering.{match_ordering, nat_cmp, is_le, is_lt, ordering_r
 use Rattle.std.specs.Cmp.{IsStrictWeakOrder, IsTotalOrder}
 use Rattle.std.specs.BinaryHeap.{lt_by_cmp}
 use Rattle.std.specs.BinaryHeap.Sift.{ComparesAt, IsGreaterChild}
-use Rattle.std.proofs.HeapSift.{ranks}
+use Rattle.std.proofs.HeapSift.{ranks, rise_begins, rise_rests, rise_tops, sink_begins, sink_ends}
+use Rattle.std.proofs.lemmas.List.Sorted.{IsPermutation-refl}
 use Rattle.std.proofs.lemmas.Bool.{both_ways, cases_Bool, cases_eq}
 use Rattle.std.proofs.lemmas.Bool.Decides.{nat_tests}
 use Rattle.std.proofs.lemmas.Cmp.{back_total, then_total, on_total, nat_cmp_total, tied_itself}
@@ -90,3 +91,8 @@ module _ {K : Type 0} (cmp : K → K → Ordering) where
         (λ (e : k ≡ c). ap (λ m. lt_by_cmp (later cmp) (get_or xs c d) (get_or xs m d)) e ∙ ap is_lt (tied_itself later_total (get_or xs c d)))
         (λ u. let e : k ≡ o = omega arith in ap (λ m. lt_by_cmp (later cmp) (get_or xs c d) (get_or xs m d)) e ∙ test d (omega arith))
         (cases_eq k c)
+
+-- what `sift_up` and `sift_down` need but for their steps
+pub ruleset rising = (rise_begins, rise_rests, rise_tops, compared, IsPermutation-refl)
+
+pub ruleset sinking = (sink_begins, sink_ends, IsPermutation-refl)

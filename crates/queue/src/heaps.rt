@@ -34,6 +34,7 @@ impl<'a, K: Cost> Heap<'a, K> {
     ghost use Rattle.queue.specs.Heaps.{capacity, Pushed, Popped};
 
     /// An empty queue in this memory.
+    #[tactic(auto, using(crate::proofs::HeapLaws::none_ordered))]
     pub fn new(entries: &'a mut [Entry<K>]) -> Heap<'a, K>
         ensures len { result.len ≡ 0 }
         ensures memory { result.entries.now ≡ entries.old }
@@ -58,6 +59,7 @@ impl<'a, K: Cost> Heap<'a, K> {
     }
 
     /// Takes `new` in, exactly where there is room; else nothing changes.
+    #[tactic(auto, using(crate::proofs::HeapLaws::push_ordered))]
     pub fn push(&mut self, new: Entry<K>) -> Result<(), NoRoom>
         ensures room { IsOk result ↔ (self.old.len < capacity self.old) }
         ensures pushed { Pushed result new self.old self.new }

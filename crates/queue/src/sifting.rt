@@ -16,6 +16,7 @@ fn comes_sooner<K: Cost>(run: &[Entry<K>], a: usize, b: usize) -> bool
 }
 
 /// Moves the last entry up to its place.
+#[tactic(auto, using(crate::proofs::OrderLaws::rising))]
 pub(crate) fn sift_up<K: Cost>(run: &mut [Entry<K>])
     requires { 0 < length run.old }
     ensures shuffled { IsPermutation run.old run.new }
@@ -47,6 +48,7 @@ fn first_child<K: Cost>(run: &[Entry<K>], parent: usize) -> usize
 }
 
 /// Moves the first entry down to its place.
+#[tactic(auto, using(crate::proofs::OrderLaws::sinking))]
 pub(crate) fn sift_down<K: Cost>(run: &mut [Entry<K>])
     ensures shuffled { IsPermutation run.old run.new }
     ensures sinks { SiftsDown (later K.cmp) run.old 0 (length run.old) run.new }

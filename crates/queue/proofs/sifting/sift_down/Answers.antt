@@ -1,18 +1,10 @@
 use Rattle.std.proofs.Common.{◌≡◌, length, subst, arith}
 use Rattle.std.specs.BinaryHeap.Sift.{IsGreaterChild}
-use Rattle.std.proofs.lemmas.List.Sorted.{IsPermutation-refl, IsPermutation-trans}
-use Rattle.std.proofs.HeapSift.{sink_begins, sink_steps, sink_rests, sink_ends}
+use Rattle.std.proofs.lemmas.List.Sorted.{IsPermutation-trans}
+use Rattle.std.proofs.HeapSift.{sink_steps, sink_rests}
 use Rattle.queue.specs.Order.{later}
 use Rattle.queue.proofs.OrderLaws.{compared, later_total}
 use Rattle.queue.proofs.sifting.sift_down.Goals as goal
-
-pub loop-at-init : goal.loop-at-init
-loop-at-init g c =
-    let xs = c.args.run.now in
-    record {
-      shuffled = IsPermutation-refl xs;
-      sinking = sink_begins (later g.K.Ord.cmp) (later_total g.K.Ord.cmp g.met.K.Ord.total) xs 0 (length xs);
-    }
 
 pub returns-then-not-comes_sooner-clause-sinks : goal.returns-then-not-comes_sooner-clause-sinks
 returns-then-not-comes_sooner-clause-sinks g c =
@@ -34,9 +26,3 @@ loop-at-preserved g c =
       shuffled = IsPermutation-trans xs l.run c.swap.new.self l.invariant.shuffled c.swap.ensures.permutation;
       sinking = sink_steps (later g.K.Ord.cmp) (later_total g.K.Ord.cmp g.met.K.Ord.total) xs l.run c.swap.new.self 0 (length xs) l.at child (omega arith) bound.1 bound.2 (omega arith) (omega arith) c.swap.ensures.after best (compared g.K.Ord.cmp l.run child l.at _ c.if-not-comes_sooner.ensures) l.invariant.sinking;
     }
-
-pub returns-clause-sinks : goal.returns-clause-sinks
-returns-clause-sinks g c =
-    let xs = c.args.run.now in
-    let l = c.loop-at in
-    sink_ends (later g.K.Ord.cmp) (later_total g.K.Ord.cmp g.met.K.Ord.total) xs l.run 0 (length xs) l.at (omega arith) l.invariant.sinking
