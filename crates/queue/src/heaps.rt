@@ -1,5 +1,5 @@
 // The queue, in memory lent to it.
-ghost use Rattle.std.specs.Prelude.{◌≡◌, ◌↔◌, ◌<◌, ◌==◌, length, IsOk, Some, codes};
+ghost use Rattle.std.specs.Prelude.{◌≡◌, ◌↔◌, ◌<◌, length, IsOk, IsTrue, Some, codes};
 ghost use Rattle.queue.specs.Order.{Ordered, Ordered-prop};
 
 use crate::entries::Entry;
@@ -53,7 +53,7 @@ impl<'a, K: Cost> Heap<'a, K> {
 
     /// Whether none waits.
     pub fn is_empty(&self) -> bool
-        ensures { result ≡ (self.now.len == 0) }
+        ensures { IsTrue result ↔ (self.now.len ≡ 0) }
     {
         self.len == 0
     }
