@@ -15,22 +15,30 @@ use Rattle.std.proofs.lemmas.List.Sorted.{IsStrictWeakOrder-flip}
 use Rattle.cost.specs.Order.{at_most}
 use Rattle.cost.proofs.OrderLaws.{apart}
 use Rattle.queue.specs.declared.entries.Entry.{Entry}
-use Rattle.queue.specs.Order.{tie, sooner, later}
+use Rattle.queue.specs.Order.{tie, by_tie, sooner, later}
 
 -- what the tie keeps: what follows uses no more of it
-tie_ranks : (a b : ℕ) → is_lt (nat_cmp a b) ≡ tie a b
-tie_ranks a b = grind (arith, nat_tests)
+tie_is : (a b : ℕ) → nat_cmp a b ≡ by_tie a b
+tie_is a b = grind (arith, nat_tests)
+
+tie_total : IsTotalOrder by_tie
+tie_total = subst IsTotalOrder (λ i a b. tie_is a b i) nat_cmp_total
 
 tie_apart : (a b : ℕ) → tie a b ≡ false → tie b a ≡ false → a ≡ b
 tie_apart a b h k = grind (arith, nat_tests)
+
+less_where : (p q : Bool) → is_lt (cond p Less (cond q Greater Equal)) ≡ p
+less_where true q = refl
+less_where false true = refl
+less_where false false = refl
 
 module _ {K : Type 0} (cmp : K → K → Ordering) where
   pub later_is : (a b : Entry K) → lt_by_cmp (later cmp) a b ≡ sooner cmp b a
   later_is a b = by (cmp b.cost a.cost)
     where
-      by : (o : Ordering) → is_lt (ordering_then o (nat_cmp b.key a.key)) ≡ match_ordering o true (tie b.key a.key) false
+      by : (o : Ordering) → is_lt (ordering_then o (by_tie b.key a.key)) ≡ match_ordering o true (tie b.key a.key) false
       by Less = refl
-      by Equal = tie_ranks b.key a.key
+      by Equal = less_where (tie b.key a.key) (tie a.key b.key)
       by Greater = refl
 
   -- what a test of the entries at a and b says of the order turned round
@@ -39,7 +47,7 @@ module _ {K : Type 0} (cmp : K → K → Ordering) where
 
   module _ (order : IsTotalOrder cmp) where
     pub later_total : IsTotalOrder (later cmp)
-    later_total = back_total (then_total (on_total (λ e. e.cost) order) (on_total (λ e. e.key) nat_cmp_total))
+    later_total = back_total (then_total (on_total (λ e. e.cost) order) (on_total (λ e. e.key) tie_total))
 
     pub sooner_ranks : IsStrictWeakOrder (sooner cmp)
     sooner_ranks = subst IsStrictWeakOrder (λ i a b. later_is b a i) (IsStrictWeakOrder-flip (lt_by_cmp (later cmp)) (ranks later_total))

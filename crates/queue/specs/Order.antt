@@ -1,7 +1,8 @@
 -- The order in which entries leave the queue, and how they lie in memory until then.
-use Rattle.std.specs.Prelude.{◌≡◌, ℕ, ◌≤◌, Bool, true, false, List, length, take, nat_lt}
+use Rattle.std.specs.Prelude.{◌≡◌, ℕ, ◌≤◌, Bool, true, false, cond, List, length, take, nat_lt}
 use Rattle.std.specs.declared.cmp.Ordering.{Ordering}
-use Rattle.std.specs.Ordering.{match_ordering, nat_cmp, on, then_cmp, flip_args}
+use Rattle.std.specs.declared.cmp.Ordering.TheVariants.{Less, Equal, Greater}
+use Rattle.std.specs.Ordering.{match_ordering, on, then_cmp, flip_args}
 use Rattle.std.specs.List.{AllByRecursion}
 use Rattle.std.specs.BinaryHeap.{IsHeap, IsHeap-prop}
 use Rattle.std.specs.Coded.{le_prop}
@@ -10,6 +11,10 @@ use Rattle.queue.specs.declared.entries.Entry.{Entry}
 -- which of two keys comes first where the costs are equal: the lower
 abbrev pub tie : ℕ → ℕ → Bool
 tie a b = nat_lt a b
+
+-- how the tie compares two keys
+abbrev pub by_tie : ℕ → ℕ → Ordering
+by_tie a b = cond (tie a b) Less (cond (tie b a) Greater Equal)
 
 module _ {K : Type 0} (cmp : K → K → Ordering) where
   -- a comes sooner than b: it costs less, or the costs are equal and the keys decide
@@ -22,7 +27,7 @@ module _ {K : Type 0} (cmp : K → K → Ordering) where
 
   -- the order of entries turned round, since the greatest is on top of a heap of the library
   abbrev pub later : Entry K → Entry K → Ordering
-  later = flip_args (then_cmp (on (λ e. e.cost) cmp) (on (λ e. e.key) nat_cmp))
+  later = flip_args (then_cmp (on (λ e. e.cost) cmp) (on (λ e. e.key) by_tie))
 
   -- the first n entries have room, and none of them comes sooner than its parent
   pub record Ordered (xs : List (Entry K)) (n : ℕ) : Type 0 where
