@@ -12,6 +12,7 @@ use std::fmt;
 #[derive(Drop)]
 pub struct Heap<'a, K: Cost> {
     entries: &'a mut [Entry<K>],
+    // Beside the slice, since the queue takes no memory of its own.
     len: usize,
     ghost ordered: { Ordered K.cmp entries.now len } by { Ordered-prop K.cmp entries.now len },
 }

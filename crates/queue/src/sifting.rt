@@ -23,6 +23,7 @@ pub(crate) fn sift_up<K: Cost>(run: &mut [Entry<K>])
     ensures rises { SiftsUp (later K.cmp) run.old (length run.old - 1) run.new }
 {
     let mut at = run.len() - 1;
+    // A path in the tree and no run of places: no iterator walks it, and no method of slices sifts.
     while at > 0 {
         let parent = (at - 1) / 2;
         if !comes_sooner(run, at, parent) {
@@ -55,6 +56,7 @@ pub(crate) fn sift_down<K: Cost>(run: &mut [Entry<K>])
 {
     let len = run.len();
     let mut at = 0;
+    // A path in the tree, as above.
     while at < len / 2 {
         let child = first_child(run, at);
         if !comes_sooner(run, child, at) {
