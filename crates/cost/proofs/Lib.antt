@@ -1,1 +1,2 @@
-pub mod SameCosts
+pub mod OrderLaws
+pub mod KindOrders

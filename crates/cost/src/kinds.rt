@@ -1,11 +1,10 @@
 // The kinds of cost.
-ghost use Rattle.std.specs.Prelude.{◌≡◌, Bool, true, false, ℕ};
+ghost use Rattle.std.specs.Prelude.{◌≡◌, true, ℕ};
+ghost use Rattle.std.specs.declared.cmp.Ordering.TheVariants.{Equal};
+ghost use Rattle.cost.specs.Order.{at_most};
 
-/// A kind of cost: a total order, and a step along a channel, which never lowers a cost and keeps the order of two.
-pub trait Cost: Copy {
-    /// Whether x is at most y, as `atmost x y`.
-    ghost atmost: { Self → Self → Bool };
-
+/// A kind of cost: a total order in which equal costs are one and the same, and a step along a channel, which never lowers a cost and keeps the order of two.
+pub trait Cost: Copy + Ord {
     /// The cost of staying.
     ghost nil: { Self };
 
@@ -20,19 +19,12 @@ pub trait Cost: Copy {
     fn step(self, load: u32) -> Self
         ensures { result ≡ stepped self load };
 
-    /// Whether this cost is at most the other.
-    fn at_most(self, other: Self) -> bool
-        ensures { result ≡ atmost self other };
+    /// Costs that compare equal are one and the same.
+    ghost identical: { (x y : Self) → Self.cmp x y ≡ Equal → x ≡ y };
 
-    ghost itself: { (x : Self) → atmost x x ≡ true };
+    /// A step never lowers a cost.
+    ghost rises: { (x : Self) (n : ℕ) → at_most Self.cmp x (stepped x n) ≡ true };
 
-    ghost apart: { (x y : Self) → atmost x y ≡ true → atmost y x ≡ true → x ≡ y };
-
-    ghost chain: { (x y z : Self) → atmost x y ≡ true → atmost y z ≡ true → atmost x z ≡ true };
-
-    ghost total: { (x y : Self) → atmost x y ≡ false → atmost y x ≡ true };
-
-    ghost rises: { (x : Self) (n : ℕ) → atmost x (stepped x n) ≡ true };
-
-    ghost keeps: { (x y : Self) (n : ℕ) → atmost x y ≡ true → atmost (stepped x n) (stepped y n) ≡ true };
+    /// A step keeps the order of two costs.
+    ghost keeps: { (x y : Self) (n : ℕ) → at_most Self.cmp x y ≡ true → at_most Self.cmp (stepped x n) (stepped y n) ≡ true };
 }

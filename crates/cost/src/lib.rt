@@ -5,7 +5,6 @@ mod counts;
 mod kinds;
 mod loads;
 mod pairs;
-mod readers;
 
 pub use counts::Hops;
 pub use kinds::Cost;

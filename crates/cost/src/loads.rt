@@ -1,5 +1,5 @@
 // Costs by load.
-ghost use Rattle.std.specs.Prelude.{◌≤◌, leb};
+ghost use Rattle.std.specs.Prelude.{◌≡◌, ◌≤◌};
 ghost use Rattle.cost.specs.Steps.{most_load, up_to};
 ghost use Rattle.cost.specs.Bounds.{zero_fits, up_to_fits};
 ghost use Rattle.std.proofs.Common.{rules, arith};
@@ -7,26 +7,27 @@ ghost use Rattle.std.proofs.Common.{rules, arith};
 use crate::kinds::Cost;
 
 /// The loads of the channels added up, which stops at 4,294,967,295.
-#[derive(Clone, Copy)]
+#[derive(Clone, Copy, PartialEq, Eq, PartialOrd, Ord)]
 pub struct Load {
-    pub(crate) total: u32,
+    total: u32,
     ghost light: { total ≤ most_load },
 }
 
-impl Cost for Load {
-    ghost atmost = { λ x y. leb x.total y.total };
+impl Load {
+    /// The loads added up.
+    pub fn total(&self) -> u32
+        ensures { result ≡ self.now.total }
+    {
+        self.total
+    }
+}
 
+impl Cost for Load {
     ghost nil = { record { total = 0; light = zero_fits most_load } };
 
     ghost stepped = { λ x n. record { total = up_to most_load x.total n; light = up_to_fits most_load x.total n } };
 
-    ghost itself = { Prim.search rules };
-
-    ghost apart = { Prim.grind (arith, Self.row.coded.inj) };
-
-    ghost chain = { Prim.search rules };
-
-    ghost total = { Prim.search rules };
+    ghost identical = { Prim.grind (arith, Self.row.coded.inj) };
 
     ghost rises = { Prim.search rules };
 
@@ -40,9 +41,5 @@ impl Cost for Load {
         Load {
             total: self.total.saturating_add(load),
         }
-    }
-
-    fn at_most(self, other: Load) -> bool {
-        self.total <= other.total
     }
 }

@@ -1,35 +1,43 @@
 // Costs by hops, then load.
 ghost use Rattle.std.specs.Prelude.{◌≡◌, ◌≤◌};
-ghost use Rattle.cost.specs.Steps.{most_hops, most_load, up_to, lexed, loaded};
+ghost use Rattle.cost.specs.Steps.{most_hops, most_load, up_to, loaded};
 ghost use Rattle.cost.specs.Bounds.{zero_fits, zero_spent, up_to_fits, loaded_fits, loaded_spent};
 ghost use Rattle.std.proofs.Common.{rules, arith};
 
 use crate::kinds::Cost;
 
 /// Hops first, then load; 65,535 hops go only with the greatest load, so that a step keeps the order of two costs.
-#[derive(Clone, Copy)]
+#[derive(Clone, Copy, PartialEq, Eq, PartialOrd, Ord)]
 pub struct HopsThenLoad {
-    pub(crate) hops: u16,
-    pub(crate) load: u32,
+    hops: u16,
+    load: u32,
     ghost few: { hops ≤ most_hops },
     ghost light: { load ≤ most_load },
     ghost spent: { (most_hops ≤ hops → load ≡ most_load) },
 }
 
-impl Cost for HopsThenLoad {
-    ghost atmost = { λ x y. lexed x.hops x.load y.hops y.load };
+impl HopsThenLoad {
+    /// The number of channels.
+    pub fn hops(&self) -> u16
+        ensures { result ≡ self.now.hops }
+    {
+        self.hops
+    }
 
+    /// The loads added up; the greatest load, once the hops are the greatest.
+    pub fn load(&self) -> u32
+        ensures { result ≡ self.now.load }
+    {
+        self.load
+    }
+}
+
+impl Cost for HopsThenLoad {
     ghost nil = { record { hops = 0; load = 0; few = zero_fits most_hops; light = zero_fits most_load; spent = zero_spent } };
 
     ghost stepped = { λ x n. record { hops = up_to most_hops x.hops 1; load = loaded x.hops x.load n; few = up_to_fits most_hops x.hops 1; light = loaded_fits x.hops x.load n; spent = loaded_spent x.hops x.load n } };
 
-    ghost itself = { Prim.search rules };
-
-    ghost apart = { Prim.grind (arith, Self.row.coded.inj) };
-
-    ghost chain = { Prim.search rules };
-
-    ghost total = { Prim.search rules };
+    ghost identical = { Prim.grind (arith, Self.row.coded.inj) };
 
     ghost rises = { Prim.search rules };
 
@@ -47,15 +55,5 @@ impl Cost for HopsThenLoad {
             u32::MAX
         };
         HopsThenLoad { hops, load }
-    }
-
-    fn at_most(self, other: HopsThenLoad) -> bool {
-        if self.hops < other.hops {
-            return true;
-        }
-        if other.hops < self.hops {
-            return false;
-        }
-        self.load <= other.load
     }
 }

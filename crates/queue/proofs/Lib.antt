@@ -1,4 +1,4 @@
 pub mod OrderLaws
-pub mod SiftLaws
 pub mod ContentLaws
+pub mod HeapLaws
 pub mod WaitLaws

@@ -1,97 +1,106 @@
--- Entries are in a strict order, total up to entries of the same cost and key: from the laws of costs alone.
-use Rattle.std.proofs.Common.{◌≡◌, ℕ, Bool, true, false, cond, ◌⊎◌, refl, inl, inr, arith}
-use Rattle.std.specs.Cmp.{IsStrictWeakOrder}
-use Rattle.std.proofs.lemmas.Bool.{both_ways, cases_Bool}
+-- The order of entries, from the laws of costs alone: total, and as the library's heaps have it.
+use Rattle.std.proofs.Common.{◌≡◌, ℕ, ◌+◌, ◌*◌, ◌<◌, ◌≤◌, Bool, true, false, cond, ◌⊎◌, List, get_or, refl, sym, ap, ◌∙◌, subst, inl, inr, ⊎_elim, arith}
+use Rattle.std.specs.declared.cmp.Ordering.{Ordering}
+use Rattle.std.specs.declared.cmp.Ordering.TheVariants.{Less, Equal, Greater}
+use Rattle.std.specs.Ordering.{match_ordering, nat_cmp, is_le, is_lt, ordering_reverse, ordering_then}
+use Rattle.std.specs.Cmp.{IsStrictWeakOrder, IsTotalOrder}
+use Rattle.std.specs.BinaryHeap.{lt_by_cmp}
+use Rattle.std.specs.BinaryHeap.Sift.{ComparesAt, IsGreaterChild}
+use Rattle.std.proofs.HeapSift.{ranks, rise_begins, rise_rests, rise_tops, sink_begins, sink_ends}
+use Rattle.std.proofs.lemmas.List.Sorted.{IsPermutation-refl}
+use Rattle.std.proofs.lemmas.Bool.{both_ways, cases_Bool, cases_eq}
 use Rattle.std.proofs.lemmas.Bool.Decides.{nat_tests}
+use Rattle.std.proofs.lemmas.Cmp.{back_total, then_total, on_total, nat_cmp_total, tied_itself}
+use Rattle.std.proofs.lemmas.List.Sorted.{IsStrictWeakOrder-flip}
+use Rattle.cost.specs.Order.{at_most}
+use Rattle.cost.proofs.OrderLaws.{apart}
 use Rattle.queue.specs.declared.entries.Entry.{Entry}
-use Rattle.queue.specs.Order.{tie, sooner}
+use Rattle.queue.specs.Order.{tie, by_tie, sooner, later}
 
 -- what the tie keeps: what follows uses no more of it
-pub tie_one_way : (a b : ℕ) → tie a b ≡ true → tie b a ≡ false
-tie_one_way a b h = grind (arith, nat_tests)
+tie_is : (a b : ℕ) → nat_cmp a b ≡ by_tie a b
+tie_is a b = grind (arith, nat_tests)
 
-pub tie_chain : (a b c : ℕ) → tie a b ≡ false → tie b c ≡ false → tie a c ≡ false
-tie_chain a b c h k = grind (arith, nat_tests)
+tie_total : IsTotalOrder by_tie
+tie_total = subst IsTotalOrder (λ i a b. tie_is a b i) nat_cmp_total
 
-pub tie_apart : (a b : ℕ) → tie a b ≡ false → tie b a ≡ false → a ≡ b
+tie_apart : (a b : ℕ) → tie a b ≡ false → tie b a ≡ false → a ≡ b
 tie_apart a b h k = grind (arith, nat_tests)
 
--- a relation that ranks, as the order of any list
-module _ {X : Type 0} (before : X → X → Bool) (ranks : IsStrictWeakOrder before) where
-  pub never_itself : (x : X) → before x x ≡ false
-  never_itself x = by (cases_Bool (before x x))
+less_where : (p q : Bool) → is_lt (cond p Less (cond q Greater Equal)) ≡ p
+less_where true q = refl
+less_where false true = refl
+less_where false false = refl
+
+module _ {K : Type 0} (cmp : K → K → Ordering) where
+  pub later_is : (a b : Entry K) → lt_by_cmp (later cmp) a b ≡ sooner cmp b a
+  later_is a b = by (cmp b.cost a.cost)
     where
-      by : (before x x ≡ true) ⊎ (before x x ≡ false) → before x x ≡ false
-      by (inl t) = ranks.one_way x x t
-      by (inr f) = f
+      by : (o : Ordering) → is_lt (ordering_then o (by_tie b.key a.key)) ≡ match_ordering o true (tie b.key a.key) false
+      by Less = refl
+      by Equal = less_where (tie b.key a.key) (tie a.key b.key)
+      by Greater = refl
 
-  pub onward : (x y z : X) → before x y ≡ true → before y z ≡ true → before x z ≡ true
-  onward x y z h k = by (cases_Bool (before x z))
-    where
-      by : (before x z ≡ true) ⊎ (before x z ≡ false) → before x z ≡ true
-      by (inl t) = t
-      by (inr f) = absurd (both_ways (before x y) (ranks.chain x z y f (ranks.one_way y z k)) h)
+  -- what a test of the entries at a and b says of the order turned round
+  pub compared : (xs : List (Entry K)) (a b : ℕ) (r : Bool) → ((d : Entry K) → r ≡ sooner cmp (get_or xs a d) (get_or xs b d)) → ComparesAt (later cmp) xs b a r
+  compared xs a b r test d = later_is (get_or xs b d) (get_or xs a d) ∙ sym (test d)
 
-module _ {K : Type 0} (atmost : K → K → Bool) (total : (x y : K) → atmost x y ≡ false → atmost y x ≡ true) where
-  -- a does not come sooner than b: b costs no more, and where neither costs less a has not the key
-  pub not_sooner : (a b : Entry K) → sooner atmost a b ≡ false → (atmost b.cost a.cost ≡ true) × (atmost a.cost b.cost ≡ true → tie a.key b.key ≡ false)
-  not_sooner a b h = by (atmost a.cost b.cost) (atmost b.cost a.cost) (total a.cost b.cost) h
-    where
-      by : (p q : Bool) → (p ≡ false → q ≡ true) → cond p (cond q (tie a.key b.key) true) false ≡ false → (q ≡ true) × (p ≡ true → tie a.key b.key ≡ false)
-      by true true t h = (refl, λ _. h)
-      by true false t h = absurd (both_ways true h refl)
-      by false true t h = (refl, λ e. absurd (both_ways false refl e))
-      by false false t h = absurd (both_ways false refl (t refl))
+  module _ (order : IsTotalOrder cmp) where
+    pub later_total : IsTotalOrder (later cmp)
+    later_total = back_total (then_total (on_total (λ e. e.cost) order) (on_total (λ e. e.key) tie_total))
 
-  pub from_costs : (a b : Entry K) → atmost b.cost a.cost ≡ true → (atmost a.cost b.cost ≡ true → tie a.key b.key ≡ false) → sooner atmost a b ≡ false
-  from_costs a b h k = by (atmost a.cost b.cost) (atmost b.cost a.cost) h k
-    where
-      by : (p q : Bool) → q ≡ true → (p ≡ true → tie a.key b.key ≡ false) → cond p (cond q (tie a.key b.key) true) false ≡ false
-      by true true h k = k refl
-      by true false h k = absurd (both_ways false refl h)
-      by false q h k = refl
+    pub sooner_ranks : IsStrictWeakOrder (sooner cmp)
+    sooner_ranks = subst IsStrictWeakOrder (λ i a b. later_is b a i) (IsStrictWeakOrder-flip (lt_by_cmp (later cmp)) (ranks later_total))
 
-  one_way : (a b : Entry K) → sooner atmost a b ≡ true → sooner atmost b a ≡ false
-  one_way a b h = by (atmost a.cost b.cost) (atmost b.cost a.cost) h
-    where
-      by : (p q : Bool) → cond p (cond q (tie a.key b.key) true) false ≡ true → cond q (cond p (tie b.key a.key) true) false ≡ false
-      by true true h = tie_one_way a.key b.key h
-      by true false h = refl
-      by false q h = absurd (both_ways false refl h)
+    -- `sooner` said by at-most: a costs no more than b, and either b costs more or the keys decide
+    pub sooner_is : (a b : Entry K) → sooner cmp a b ≡ cond (at_most cmp a.cost b.cost) (cond (at_most cmp b.cost a.cost) (tie a.key b.key) true) false
+    sooner_is a b = by (cmp a.cost b.cost) (cmp b.cost a.cost) (order.antisymm b.cost a.cost)
+      where
+        by : (o p : Ordering) → p ≡ ordering_reverse o → match_ordering o true (tie a.key b.key) false ≡ cond (is_le o) (cond (is_le p) (tie a.key b.key) true) false
+        by Less p e = ap (λ q. cond (is_le q) (tie a.key b.key) true) (sym e)
+        by Equal p e = ap (λ q. cond (is_le q) (tie a.key b.key) true) (sym e)
+        by Greater p e = refl
 
-  module _ (chain : (x y z : K) → atmost x y ≡ true → atmost y z ≡ true → atmost x z ≡ true) where
-    not_chain : (a b c : Entry K) → sooner atmost a b ≡ false → sooner atmost b c ≡ false → sooner atmost a c ≡ false
-    not_chain a b c h k =
-        let l = not_sooner a b h in
-        let m = not_sooner b c k in
-        from_costs a c (chain c.cost b.cost a.cost m.0 l.0)
-        (λ t. tie_chain a.key b.key c.key (l.1 (chain a.cost c.cost b.cost t m.0)) (m.1 (chain b.cost a.cost c.cost l.0 t)))
+    -- a does not come sooner than b: b costs no more, and where neither costs less a has not the key
+    pub not_sooner : (a b : Entry K) → sooner cmp a b ≡ false → (at_most cmp b.cost a.cost ≡ true) × (at_most cmp a.cost b.cost ≡ true → tie a.key b.key ≡ false)
+    not_sooner a b h = by (cmp a.cost b.cost) (cmp b.cost a.cost) (order.antisymm b.cost a.cost) h
+      where
+        by : (o p : Ordering) → p ≡ ordering_reverse o → match_ordering o true (tie a.key b.key) false ≡ false → (is_le p ≡ true) × (is_le o ≡ true → tie a.key b.key ≡ false)
+        by Less p e h = absurd (both_ways true h refl)
+        by Equal p e h = (ap is_le e, λ _. h)
+        by Greater p e h = (ap is_le e, λ k. absurd (both_ways false refl k))
 
-    pub ranks : IsStrictWeakOrder (sooner atmost)
-    ranks = record { one_way = one_way; chain = not_chain }
-
-    pub sooner_never_itself : (a : Entry K) → sooner atmost a a ≡ false
-    sooner_never_itself = never_itself (sooner atmost) ranks
-
-    pub sooner_one_way : (a b : Entry K) → sooner atmost a b ≡ true → sooner atmost b a ≡ false
-    sooner_one_way = one_way
-
-    pub sooner_onward : (a b c : Entry K) → sooner atmost a b ≡ true → sooner atmost b c ≡ true → sooner atmost a c ≡ true
-    sooner_onward = onward (sooner atmost) ranks
-
-    module _ (apart : (x y : K) → atmost x y ≡ true → atmost y x ≡ true → x ≡ y) where
-      pub neither_sooner : (a b : Entry K) → sooner atmost a b ≡ false → sooner atmost b a ≡ false → a ≡ b
+    -- `identical` is the law of that name of a kind of cost
+    module _ (identical : (x y : K) → cmp x y ≡ Equal → x ≡ y) where
+      pub neither_sooner : (a b : Entry K) → sooner cmp a b ≡ false → sooner cmp b a ≡ false → a ≡ b
       neither_sooner a b h k =
           let l = not_sooner a b h in
           let m = not_sooner b a k in
-          let p = apart a.cost b.cost m.0 l.0 in
+          let p = apart cmp order identical a.cost b.cost m.0 l.0 in
           let q = tie_apart a.key b.key (l.1 m.0) (m.1 l.0) in
           λ i. record { cost = p i; key = q i }
 
-      pub one_of_three : (a b : Entry K) → (sooner atmost a b ≡ true) ⊎ ((a ≡ b) ⊎ (sooner atmost b a ≡ true))
-      one_of_three a b = by (cases_Bool (sooner atmost a b)) (cases_Bool (sooner atmost b a))
+      pub one_of_three : (a b : Entry K) → (sooner cmp a b ≡ true) ⊎ ((a ≡ b) ⊎ (sooner cmp b a ≡ true))
+      one_of_three a b = by (cases_Bool (sooner cmp a b)) (cases_Bool (sooner cmp b a))
         where
-          by : (sooner atmost a b ≡ true) ⊎ (sooner atmost a b ≡ false) → (sooner atmost b a ≡ true) ⊎ (sooner atmost b a ≡ false) → (sooner atmost a b ≡ true) ⊎ ((a ≡ b) ⊎ (sooner atmost b a ≡ true))
+          by : (sooner cmp a b ≡ true) ⊎ (sooner cmp a b ≡ false) → (sooner cmp b a ≡ true) ⊎ (sooner cmp b a ≡ false) → (sooner cmp a b ≡ true) ⊎ ((a ≡ b) ⊎ (sooner cmp b a ≡ true))
           by (inl t) s = inl t
           by (inr f) (inl t) = inr (inr t)
           by (inr f) (inr e) = inr (inl (neither_sooner a b f e))
+
+    -- the same of the other way round, where the entry at a comes sooner
+    pub won : (xs : List (Entry K)) (a b : ℕ) → ((d : Entry K) → true ≡ sooner cmp (get_or xs a d) (get_or xs b d)) → ComparesAt (later cmp) xs a b false
+    won xs a b test d = (ranks later_total).one_way (get_or xs b d) (get_or xs a d) (compared xs a b true test d)
+
+    -- of the children c and o of p, c comes first where o, if it is there, does not come sooner
+    pub first_of_two : (xs : List (Entry K)) (p c o n : ℕ) → ((d : Entry K) → o < n → lt_by_cmp (later cmp) (get_or xs c d) (get_or xs o d) ≡ false) → p * 2 + 1 ≤ c → c ≤ p * 2 + 2 → c + o ≡ p * 4 + 3 → IsGreaterChild (later cmp) xs p c n
+    unfolding IsGreaterChild
+    first_of_two xs p c o n test from to both = λ k d a b l. ⊎_elim
+        (λ (e : k ≡ c). ap (λ m. lt_by_cmp (later cmp) (get_or xs c d) (get_or xs m d)) e ∙ ap is_lt (tied_itself later_total (get_or xs c d)))
+        (λ u. let e : k ≡ o = omega arith in ap (λ m. lt_by_cmp (later cmp) (get_or xs c d) (get_or xs m d)) e ∙ test d (omega arith))
+        (cases_eq k c)
+
+-- what `sift_up` and `sift_down` need but for their steps
+pub ruleset rising = (rise_begins, rise_rests, rise_tops, compared, IsPermutation-refl)
+
+pub ruleset sinking = (sink_begins, sink_ends, IsPermutation-refl)

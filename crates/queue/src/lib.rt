@@ -3,9 +3,7 @@
 
 mod entries;
 mod heaps;
-mod ordering;
-mod queueing;
 mod sifting;
 
 pub use entries::Entry;
-pub use heaps::Heap;
+pub use heaps::{Heap, NoRoom};

@@ -1,21 +1,29 @@
 // Entries moved up and down until every parent comes first.
-ghost use Rattle.std.specs.Prelude.{◌+◌, ◌-◌, ◌*◌, ◌<◌, ◌≤◌, length};
+ghost use Rattle.std.specs.Prelude.{◌≡◌, ◌+◌, ◌-◌, ◌*◌, ◌<◌, ◌≤◌, length, slice_index_or};
 ghost use Rattle.std.specs.List.Sorted.{IsPermutation};
-ghost use Rattle.queue.specs.Order.{sooner};
-ghost use Rattle.queue.specs.Heaps.{Heaped, FirstChild};
+ghost use Rattle.std.specs.BinaryHeap.Sift.{IsGreaterChild, SiftsDown, SiftsUp};
+ghost use Rattle.queue.specs.Order.{later, sooner};
 
 use crate::entries::Entry;
-use crate::ordering::comes_sooner;
 use cost::Cost;
 
+/// Whether the entry at `a` comes sooner than that at `b`.
+fn comes_sooner<K: Cost>(run: &[Entry<K>], a: usize, b: usize) -> bool
+    requires { (a < length run.now) × (b < length run.now) }
+    ensures { (d : Entry K) → result ≡ sooner K.cmp (slice_index_or run.now a d) (slice_index_or run.now b d) }
+{
+    run[a] < run[b]
+}
+
 /// Moves the last entry up to its place.
+#[tactic(auto, using(crate::proofs::OrderLaws::rising))]
 pub(crate) fn sift_up<K: Cost>(run: &mut [Entry<K>])
-    requires some { 0 < length run.old }
-    requires heaped { Heaped (sooner K.Cost.atmost) run.old 0 (length run.old - 1) }
+    requires { 0 < length run.old }
     ensures shuffled { IsPermutation run.old run.new }
-    ensures heaped { Heaped (sooner K.Cost.atmost) run.new 0 (length run.old) }
+    ensures rises { SiftsUp (later K.cmp) run.old (length run.old - 1) run.new }
 {
     let mut at = run.len() - 1;
+    // A path in the tree and no run of places: no iterator walks it, and no method of slices sifts.
     while at > 0 {
         let parent = (at - 1) / 2;
         if !comes_sooner(run, at, parent) {
@@ -30,7 +38,7 @@ pub(crate) fn sift_up<K: Cost>(run: &mut [Entry<K>])
 fn first_child<K: Cost>(run: &[Entry<K>], parent: usize) -> usize
     requires { parent * 2 + 1 < length run.now }
     ensures bound { (result < length run.now) × (parent * 2 + 1 ≤ result) × (result ≤ parent * 2 + 2) }
-    ensures best { FirstChild (sooner K.Cost.atmost) run.now parent result (length run.now) }
+    ensures best { IsGreaterChild (later K.cmp) run.now parent result (length run.now) }
 {
     let left = parent * 2 + 1;
     let right = left + 1;
@@ -41,13 +49,14 @@ fn first_child<K: Cost>(run: &[Entry<K>], parent: usize) -> usize
 }
 
 /// Moves the first entry down to its place.
+#[tactic(auto, using(crate::proofs::OrderLaws::sinking))]
 pub(crate) fn sift_down<K: Cost>(run: &mut [Entry<K>])
-    requires heaped { Heaped (sooner K.Cost.atmost) run.old 1 (length run.old) }
     ensures shuffled { IsPermutation run.old run.new }
-    ensures heaped { Heaped (sooner K.Cost.atmost) run.new 0 (length run.old) }
+    ensures sinks { SiftsDown (later K.cmp) run.old 0 (length run.old) run.new }
 {
     let len = run.len();
     let mut at = 0;
+    // A path in the tree, as above.
     while at < len / 2 {
         let child = first_child(run, at);
         if !comes_sooner(run, child, at) {

@@ -1,6 +1,0 @@
-use borrow.Author.Rules.{rules}
-use Rattle.cost.proofs.SameCosts.{same_hops}
-use Rattle.cost.proofs.counts.HopsCost.step.Goals as goal
-
-pub returns : goal.returns
-returns c = same_hops _ _ (search rules)

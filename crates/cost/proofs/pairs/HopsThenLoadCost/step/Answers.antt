@@ -1,6 +1,0 @@
-use borrow.Author.Rules.{rules}
-use Rattle.cost.proofs.SameCosts.{same_pair}
-use Rattle.cost.proofs.pairs.HopsThenLoadCost.step.Goals as goal
-
-pub returns : goal.returns
-returns c = same_pair _ _ (search rules) (search rules)
