@@ -164,7 +164,7 @@ module _ (w : Topology) (root : ℕ) (v : Valid w) where
 -- ---- the first of a node's own channels
 
 -- the up channel is found among the node's own channels
-up_own : (w : Topology) (root n : ℕ) → n < w.nodes → get_or (up_channels w root) n None ≡ first_that (λ c. one_below (levels w root) (into w c) n) (own w n)
+pub up_own : (w : Topology) (root n : ℕ) → n < w.nodes → get_or (up_channels w root) n None ≡ first_that (λ c. one_below (levels w root) (into w c) n) (own w n)
 up_own w root n h = ups_at w root n h ∙ first_kept (λ c. eqb (from w c) n) (λ c. one_below (levels w root) (into w c) n) (all_channels w)
 
 -- levels in room for 64 do as well
