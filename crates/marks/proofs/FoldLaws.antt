@@ -57,29 +57,7 @@ pub fold_stays : {S X : Type 0} (P : S → Type 0) (f : S → X → S) → ((s :
 fold_stays P f step [] s p = p
 fold_stays P f step (x ∷ xs) s p = fold_stays P f step xs (f s x) (step s x p)
 
-fold_from : {S : Type 0} (P : ℕ → S → Type 0) (f : S → ℕ → S) (n : ℕ) → ((i : ℕ) (s : S) → i < n → P i s → P (suc i) (f s i)) → (k i : ℕ) (s : S) → i + k ≡ n → P i s → P n (fold f s (range i k))
-fold_from P f n step zero i s e p = let e' : i ≡ n = omega arith in subst (λ (j : ℕ). P j s) e' p
-fold_from P f n step (suc k) i s e p = fold_from P f n step k (suc i) (f s i) (omega arith) (step i s (omega arith) p)
-
-pub fold_range : {S : Type 0} (P : ℕ → S → Type 0) (f : S → ℕ → S) (n : ℕ) (s : S) → ((i : ℕ) (t : S) → i < n → P i t → P (suc i) (f t i)) → P 0 s → P n (fold f s (range 0 n))
-fold_range P f n s step p = fold_from P f n step n 0 s (omega arith) p
-
-pub below_suc : (P : ℕ → Type 0) (i : ℕ) → ((m : ℕ) → m < i → P m) → P i → (m : ℕ) → m < suc i → P m
-below_suc P i f p m h = pick (cases_eq m i)
-  where
-    pick : (m ≡ i) ⊎ (m ≡ i → ⊥) → P m
-    pick (inl e) = subst P (sym e) p
-    pick (inr d) = f m (omega arith)
-
--- a test or a choice that is known
-pub at_true : {R : Type 0} (b : Bool) (x y : R) → b ≡ true → ◌≡◌ {A = R} (elim b [ true ↦ x | false ↦ y ]) x
-at_true true x y e = refl
-at_true false x y e = let z : ◌≡◌ {A = ℕ} 0 1 = cc in absurd (omega arith)
-
-pub at_false : {R : Type 0} (b : Bool) (x y : R) → b ≡ false → ◌≡◌ {A = R} (elim b [ true ↦ x | false ↦ y ]) y
-at_false false x y e = refl
-at_false true x y e = let z : ◌≡◌ {A = ℕ} 0 1 = cc in absurd (omega arith)
-
+-- a choice that is known
 pub at_none : {A R : Type 0} (o : Option A) (x : R) (f : A → R) → o ≡ None → ◌≡◌ {A = R} (elim o [ None ↦ x | Some a ↦ f a ]) x
 at_none None x f e = refl
 at_none (Some a) x f e = let z : ◌≡◌ {A = ℕ} 0 1 = cc in absurd (omega arith)

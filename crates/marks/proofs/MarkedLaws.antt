@@ -1,11 +1,11 @@
 -- Marks in a run: all unused, and one changed.
-use Rattle.std.proofs.Common.{◌≡◌, ℕ, ◌+◌, ◌*◌, ◌<◌, ◌≤◌, Bool, true, false, cond, ◌&&◌, eqb, ltb, ◌⊎◌, List, length, get_or, set, sym, refl, ap, ◌∙◌, inl, inr, arith}
+use Rattle.std.proofs.Common.{◌≡◌, ℕ, ◌+◌, ◌*◌, ◌<◌, Bool, true, false, cond, ◌&&◌, eqb, ltb, ◌⊎◌, List, length, get_or, set, sym, refl, ap, ◌∙◌, inl, inr, arith}
 use mathlib.Core.Path.{fun_ext}
 use Rattle.std.proofs.lemmas.List.{get_or-set_same, get_or-set_other, set-set, set-get_or}
-use Rattle.std.proofs.lemmas.Bool.{lt-ltb, ltb-true, eq-eqb, eqb-true, eqb-false, false≢true, cond-false, and_parts, and_from}
+use Rattle.std.proofs.lemmas.Bool.{lt-ltb, ltb-true, eq-eqb, eqb-true, eqb-false, false≢true, cond-true, and_parts, and_from}
 use Rattle.marks.specs.declared.kinds.Mark.{Mark}
 use Rattle.marks.specs.declared.kinds.Mark.TheVariants.{Unused, Used, Blocked}
-use Rattle.marks.specs.Marked.{View, in_square, mark_in, no_marks, with_mark, is_used}
+use Rattle.marks.specs.Marked.{View, in_square, mark_in, with_mark, is_used}
 
 pub in_square_from : (c e : ℕ) → c < 240 → e < 240 → in_square c e ≡ true
 in_square_from c e lc le = and_from (ltb c 240) (ltb e 240) (lt-ltb c 240 lc) (lt-ltb e 240 le)
@@ -17,18 +17,12 @@ in_square_parts c e q = let (a, b) = and_parts (ltb c 240) (ltb e 240) q in (ltb
 pub same_views : (v u : View) → ((c e : ℕ) → v c e ≡ u c e) → v ≡ u
 same_views v u f = fun_ext (λ c. fun_ext (λ e. f c e))
 
-pub all_unused : (run : List Mark) → ((k : ℕ) → k < 57600 → get_or run k Unused ≡ Unused) → mark_in run ≡ no_marks
-all_unused run f = same_views (mark_in run) no_marks at
-  where
-    at : (c e : ℕ) → mark_in run c e ≡ Unused
-    at c e = go (in_square c e) refl
-      where
-        go : (b : Bool) → in_square c e ≡ b → cond b (get_or run (240 * c + e) Unused) Unused ≡ Unused
-        go true q = let p = in_square_parts c e q in f (240 * c + e) (let l = p.0 in let m = p.1 in omega arith)
-        go false q = refl
+-- the mark of two channel numbers is the one at their place
+pub mark_place : (run : List Mark) (c e : ℕ) → c < 240 → e < 240 → mark_in run c e ≡ get_or run (240 * c + e) Unused
+mark_place run c e lc le = cond-true (in_square c e) (get_or run (240 * c + e) Unused) Unused (in_square_from c e lc le)
 
 -- one place of a run is one mark
-module _ (run : List Mark) (c e : ℕ) (x : Mark) (lc : c < 240) (le : e < 240) (size : 57600 ≤ length run) where
+module _ (run : List Mark) (c e : ℕ) (x : Mark) (lc : c < 240) (le : e < 240) (size : length run ≡ 57600) where
   at_place : (i j : ℕ) (b : Bool) → in_square i j ≡ b → cond b (get_or (set run (240 * c + e) x) (240 * i + j) Unused) Unused ≡ cond (eqb c i && eqb e j) x (cond b (get_or run (240 * i + j) Unused) Unused)
   at_place i j true q = go (eqb c i) (eqb e j) refl refl
     where
@@ -48,14 +42,6 @@ module _ (run : List Mark) (c e : ℕ) (x : Mark) (lc : c < 240) (le : e < 240) 
 
   pub mark_set : mark_in (set run (240 * c + e) x) ≡ with_mark (mark_in run) c e x
   mark_set = same_views _ _ (λ i j. at_place i j (in_square i j) refl ∙ ap (λ b. cond (b && (eqb c i && eqb e j)) x (mark_in run i j)) (sym (in_square_from c e lc le)))
-
--- nothing changes where either is no channel number
-pub mark_outside : (v : View) (c e : ℕ) (x : Mark) → in_square c e ≡ false → with_mark v c e x ≡ v
-mark_outside v c e x q = same_views _ _ (λ i j. ap (λ b. cond (b && (eqb c i && eqb e j)) x (v i j)) q)
-
--- outside the square no mark is other than unused
-pub unused_outside : (run : List Mark) (c e : ℕ) → in_square c e ≡ false → mark_in run c e ≡ Unused
-unused_outside run c e q = cond-false (in_square c e) (get_or run (240 * c + e) Unused) Unused q
 
 -- an unused place that was marked as used and is put back
 pub put_back : (run : List Mark) (k : ℕ) → get_or run k Unused ≡ Unused → set (set run k Used) k Unused ≡ run

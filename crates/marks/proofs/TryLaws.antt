@@ -8,11 +8,11 @@ use Rattle.plan_check.proofs.CycleLaws.{Has, Leads, has_here, has_later, linked_
 use Rattle.marks.specs.declared.kinds.Mark.{Mark}
 use Rattle.marks.specs.declared.kinds.Mark.TheVariants.{Unused, Used, Blocked}
 use Rattle.marks.specs.Marked.{View, in_square, with_mark, is_used}
-use Rattle.marks.specs.Trials.{used_in, stays_free, allowed_by, tried_by, after_trial, TrialIs}
+use Rattle.marks.specs.Trials.{used_in, stays_free, allowed_by, tried_by, after_trial, TrialIs, FreeOfCycles}
 use Rattle.marks.specs.Tries.{Uses, AllFollow, known, after_by, tried_after, Tried}
 use Rattle.marks.specs.Searches.{Reach, Next}
 use Rattle.marks.proofs.MarkedLaws.{in_square_from, with_here, with_cases, used_by_test}
-use Rattle.marks.proofs.TrialLaws.{used_has, has_used}
+use Rattle.marks.proofs.TrialLaws.{used_has, has_used, trial_free}
 
 -- ---- used dependencies, listed
 
@@ -120,3 +120,12 @@ module _ (w : Topology) (v : View) (c e : ℕ) (few : channels w ≤ 240) (f : A
         go Unused q = let a = answer r refl q in by Unused q a (ap (λ b. with_mark v c e (cond b Used Blocked)) a)
         go Used q = by Used q (t.used both q) refl
         go Blocked q = by Blocked q (t.blocked q) refl
+
+-- and they are so again after it
+pub trial_of : (w : Topology) (v u : View) (c e : ℕ) (r : Bool) → channels w ≤ 240 → Tried w v c e r → u ≡ tried_after w v c e r → FreeOfCycles w v → Follows w c e → TrialIs w v c e r u
+trial_of w v u c e r few t is f p = subst (TrialIs w v c e r) (sym is) (trial_is w v c e few f.0 p f.1 r t)
+
+pub trial_keeps : (w : Topology) (v u : View) (c e : ℕ) (r : Bool) → channels w ≤ 240 → Tried w v c e r → u ≡ tried_after w v c e r → FreeOfCycles w v → Follows w c e → FreeOfCycles w u
+trial_keeps w v u c e r few t is f p =
+    let q = (trial_of w v u c e r few t is f p).1 in
+    subst (FreeOfCycles w) (sym q) (trial_follows w v c e few f.0 p, trial_free w v c e f.1)

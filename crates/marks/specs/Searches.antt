@@ -4,7 +4,7 @@ use Rattle.wiring.specs.Topologies.{Topology, channels, from, into}
 use Rattle.plan_check.specs.Cycles.{Linked}
 use Rattle.marks.specs.declared.kinds.Mark.TheVariants.{Used}
 use Rattle.marks.specs.declared.visits.Visits.{Visits}
-use Rattle.marks.specs.Marked.{View}
+use Rattle.marks.specs.Marked.{View, with_mark}
 
 -- c is e, or R leads from c to e
 abbrev pub Reach : (ℕ → ℕ → Type 0) → ℕ → ℕ → Type 0
@@ -13,6 +13,10 @@ Reach R c e = (c ≡ e) ⊎ ((cs : List ℕ) × Linked R c cs e)
 -- x depends on y by a used dependency, and y is a channel of the node where x ends
 abbrev pub Next : Topology → View → ℕ → ℕ → Type 0
 Next w v x y = (v x y ≡ Used) × (y < channels w) × (from w y ≡ into w x)
+
+-- with the dependency of c on e used too, used dependencies lead from e back to c
+abbrev pub Closes : Topology → View → ℕ → ℕ → Type 0
+Closes w v c e = Reach (Next w (with_mark v c e Used)) e c
 
 abbrev pub Seen : Visits → ℕ → Type 0
 Seen s y = slice_index_or s.seen y false ≡ true

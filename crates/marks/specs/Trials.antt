@@ -5,6 +5,7 @@ use Rattle.plan_check.specs.Cycles.{Deps, acyclic}
 use Rattle.marks.specs.declared.kinds.Mark.{Mark}
 use Rattle.marks.specs.declared.kinds.Mark.TheVariants.{Unused, Used, Blocked}
 use Rattle.marks.specs.Marked.{View, with_mark, is_used}
+use Rattle.marks.specs.Tries.{AllFollow}
 
 -- the dependency of c on e is used, and e starts where c ends
 abbrev pub uses : Topology → View → ℕ → ℕ → Bool
@@ -47,3 +48,7 @@ after_trial w v c e = tried_by w v c e (v c e)
 -- r and the marks u are those of a trial of c on e
 abbrev pub TrialIs : Topology → View → ℕ → ℕ → Bool → View → Type 0
 TrialIs w v c e r u = (r ≡ allowed w v c e) × (u ≡ after_trial w v c e)
+
+-- the used dependencies follow the wiring and have no cycle
+abbrev pub FreeOfCycles : Topology → View → Type 0
+FreeOfCycles w v = AllFollow w v × (acyclic (used_in w v) ≡ true)

@@ -1,7 +1,7 @@
 // The kinds of marks.
 
 /// The mark of a dependency of one channel on another.
-#[derive(Clone, Copy, PartialEq, Debug)]
+#[derive(Clone, Copy, PartialEq, Eq, Debug)]
 pub enum Mark {
     Unused,
     Used,

@@ -4,6 +4,7 @@
 mod kinds;
 mod marking;
 mod searching;
+mod spots;
 mod squares;
 mod trials;
 mod trying;

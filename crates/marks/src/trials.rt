@@ -1,13 +1,14 @@
 // A dependency on trial.
-ghost use Rattle.std.specs.Prelude.{◌≡◌, ◌+◌, ◌*◌, ◌<◌, ◌≤◌, length, slice_set};
+ghost use Rattle.std.specs.Prelude.{◌≡◌, ◌+◌, ◌*◌, ◌<◌, slice_set};
 
 use crate::kinds::Mark;
+use crate::spots::Spot;
 
 /// A dependency on trial: it is marked as used, and unused again when the trial ends, unless it is kept.
 pub(crate) struct Trial<'a> {
     run: &'a mut [Mark; 57600],
     place: usize,
-    ghost within: { (57600 ≤ length run.now) × (place < 57600) },
+    ghost within: { place < 57600 },
 }
 
 impl Drop for Trial<'_> {
@@ -20,22 +21,20 @@ impl Drop for Trial<'_> {
 }
 
 impl<'a> Trial<'a> {
-    /// Puts the dependency of c on e on trial.
-    pub(crate) fn begin(run: &'a mut [Mark; 57600], c: u8, e: u8) -> Trial<'a>
-        requires { (57600 ≤ length run.old) × (c < 240) × (e < 240) }
-        ensures run { result.run.now ≡ slice_set run.old (240 * c + e) Mark.Used }
-        ensures place { result.place ≡ 240 * c + e }
+    /// Puts a dependency on trial.
+    pub(crate) fn begin(run: &'a mut [Mark; 57600], spot: Spot) -> Trial<'a>
+        ensures run { result.run.now ≡ slice_set run.old (240 * spot.dependency.channel + spot.dependency.on) Mark.Used }
+        ensures place { result.place ≡ 240 * spot.dependency.channel + spot.dependency.on }
         ensures same { result.run.ghost_name ≡ run.entry.ghost_name }
     {
-        let place = 240 * c as usize + e as usize;
+        let place = spot.place();
         run[place] = Mark::Used;
         Trial { run, place }
     }
 
     /// The marks, with the one on trial.
     pub(crate) fn run(&self) -> &[Mark; 57600]
-        ensures size { 57600 ≤ length result.now }
-        ensures run { result.now ≡ self.now.run.now }
+        ensures { result.now ≡ self.now.run.now }
     {
         self.run
     }

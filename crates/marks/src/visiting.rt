@@ -5,17 +5,17 @@ ghost use Rattle.marks.specs.Searches.{Grown, Seen, last_stacked};
 use crate::visits::Visits;
 
 impl Visits {
-    /// The visits of a search that begins at e.
-    pub(crate) fn begin(e: u8) -> Visits
-        requires { e < 240 }
-        ensures seen { result.seen ≡ slice_set (replicate 240 false) e true }
-        ensures stack { slice_index result.stack 0 ≡ e }
+    /// The visits of a search that begins at a channel.
+    pub(crate) fn begin(channel: u8) -> Visits
+        requires { channel < 240 }
+        ensures seen { result.seen ≡ slice_set (replicate 240 false) channel true }
+        ensures stack { slice_index result.stack 0 ≡ channel }
         ensures count { result.count ≡ 1 }
     {
         let mut seen = [false; 240];
         let mut stack = [0u8; 240];
-        seen[e as usize] = true;
-        stack[0] = e;
+        seen[channel as usize] = true;
+        stack[0] = channel;
         Visits {
             seen,
             stack,
@@ -23,17 +23,17 @@ impl Visits {
         }
     }
 
-    /// Sees channel c: where it is new, it is still to be looked at.
-    pub(crate) fn add(&mut self, c: u8)
-        requires { c < 240 }
-        ensures grown { Grown (λ y. y ≡ c) self.old self.new }
-        ensures found { Seen self.new c }
+    /// Sees a channel: where it is new, it is still to be looked at.
+    pub(crate) fn add(&mut self, channel: u8)
+        requires { channel < 240 }
+        ensures grown { Grown (λ y. y ≡ channel) self.old self.new }
+        ensures found { Seen self.new channel }
     {
-        if self.seen[c as usize] {
+        if self.seen[channel as usize] {
             return;
         }
-        self.seen[c as usize] = true;
-        self.stack[self.count] = c;
+        self.seen[channel as usize] = true;
+        self.stack[self.count] = channel;
         self.count += 1;
     }
 

@@ -1,8 +1,9 @@
 -- The marks of escape routes, node by node and destination by destination.
-use Rattle.std.proofs.Common.{◌≡◌, ℕ, ◌+◌, ◌<◌, ◌≤◌, Bool, true, false, cond, ◌&&◌, ◌||◌, eqb, List, [], ◌∷◌, ◌++◌, length, get_or, take, Some, None, Option, sym, refl, ap, ◌∙◌, ap₂, arith}
+use Rattle.std.proofs.Common.{◌≡◌, ℕ, ◌+◌, ◌<◌, ◌≤◌, Bool, true, false, cond, ◌&&◌, ◌||◌, eqb, ◌⊎◌, List, [], ◌∷◌, ◌++◌, length, get_or, take, Some, None, Option, sym, refl, ap, ◌∙◌, ap₂, inl, inr, ⊎_elim, arith}
 use mathlib.Core.Path.{fun_ext}
 use Rattle.std.proofs.lemmas.List.{take_more, take_all}
 use Rattle.std.proofs.lemmas.Bool.{and_parts, eqb-true}
+use Rattle.wiring.specs.declared.dependencies.Dependency.{Dependency}
 use Rattle.wiring.specs.Lists.{fold}
 use Rattle.wiring.specs.Levels.{padded}
 use Rattle.wiring.specs.Topologies.{Topology, Valid, channels, into}
@@ -14,7 +15,7 @@ use Rattle.marks.specs.Marked.{View, no_marks, with_mark, with_all}
 use Rattle.marks.proofs.MarkedLaws.{in_square_from, same_views}
 use Rattle.tree.specs.Ups.{up_channels}
 use Rattle.tree.specs.Escapes.{Known}
-use Rattle.tree.specs.Dependencies.{dep_of, escape_deps}
+use Rattle.tree.specs.Dependencies.{dep_of, dependency_at, escape_deps}
 use Rattle.tree.specs.Marking.{Adds, MarkedExactly, MarkedFree}
 use Rattle.tree.proofs.DependencyLaws.{escape_deps_has, escape_deps_only}
 use Rattle.tree.proofs.EscapeLaws.{escape_known, escape_deps_no_cycle}
@@ -44,24 +45,55 @@ module _ (v : View) (D : Deps) (c e : ℕ) where
 
 -- ---- one node
 
+-- the dependency of two choices, of which the second goes by the first
+abbrev chosen : Option ℕ → (ℕ → Option ℕ) → Option Dependency
+chosen o g = elim o [ None ↦ None | Some c ↦ elim (g c) [ None ↦ None | Some e ↦ Some (record { channel = c; on = e }) ] ]
+
+chosen_none : (o : Option ℕ) (g : ℕ → Option ℕ) → None ≡ chosen o g → (o ≡ None) ⊎ ((c : ℕ) × (o ≡ Some c) × (g c ≡ None))
+chosen_none None g q = inl refl
+chosen_none (Some c) g q = inr (c, refl, last (g c) q)
+  where
+    last : (p : Option ℕ) → ◌≡◌ {A = Option Dependency} None (elim p [ None ↦ None | Some e ↦ Some (record { channel = c; on = e }) ]) → p ≡ None
+    last None z = refl
+    last (Some e) z = cc
+
+chosen_some : (o : Option ℕ) (g : ℕ → Option ℕ) (d : Dependency) → Some d ≡ chosen o g → (o ≡ Some d.channel) × (g d.channel ≡ Some d.on)
+chosen_some None g d q = cc
+chosen_some (Some c) g d q = last (g c) refl q
+  where
+    last : (p : Option ℕ) → g c ≡ p → ◌≡◌ {A = Option Dependency} (Some d) (elim p [ None ↦ None | Some e ↦ Some (record { channel = c; on = e }) ]) → (Some c ≡ Some d.channel) × (g d.channel ≡ Some d.on)
+    last None h z = cc
+    last (Some e) h z =
+        let is : d ≡ record { channel = c; on = e } = cc in
+        (ap (λ x. Some x.channel) (sym is), ap (λ (x : Dependency). g x.channel) is ∙ h ∙ ap (λ x. Some x.on) (sym is))
+
 module _ (w : Topology) (vs : List (Option ℕ)) (n : ℕ) (was : View) where
-  pub node_none : None ≡ get_or vs n None → Adds (dep_of w vs) n was was
-  node_none e u D q = q ∙ ap (with_all u) (sym (rw (sym e, dep_of)))
+  node_none : get_or vs n None ≡ None → Adds (dep_of w vs) n was was
+  node_none e u D q = q ∙ ap (with_all u) (sym (rw (e, dep_of)))
 
-  module _ (c : ℕ) (e : Some c ≡ get_or vs n None) where
-    pub node_last : None ≡ get_or vs (into w c) None → Adds (dep_of w vs) n was was
-    node_last f u D q = q ∙ ap (with_all u) (sym (rw (sym e, dep_of) (rw (sym f))))
+  node_last : (c : ℕ) → get_or vs n None ≡ Some c → get_or vs (into w c) None ≡ None → Adds (dep_of w vs) n was was
+  node_last c e f u D q = q ∙ ap (with_all u) (sym (rw (e, dep_of) (rw f)))
 
-    pub node_next : (x : ℕ) → Some x ≡ get_or vs (into w c) None → Known w vs → channels w ≤ 240 → Adds (dep_of w vs) n was (with_mark was c x Used)
-    node_next x f K few u D q =
-        let here = (K n c (sym e)).0 in
-        let next = (K (into w c) x (sym f)).0 in
-        ap (λ (a : View). with_mark a c x Used) q
-        ∙ mark_more u D c x (omega arith) (omega arith)
-        ∙ ap (with_all u) (sym (joined D))
-      where
-        joined : (D : Deps) → dep_of w vs D n ≡ more D c x
-        joined D = rw (sym e, dep_of) (rw (sym f))
+  pub node_stays : None ≡ dependency_at w vs n → Adds (dep_of w vs) n was was
+  node_stays q = ⊎_elim node_none (λ p. node_last p.0 p.1 p.2) (chosen_none (get_or vs n None) (λ c. get_or vs (into w c) None) q)
+
+  pub node_gains : (d : Dependency) → Some d ≡ dependency_at w vs n → Known w vs → channels w ≤ 240 → Adds (dep_of w vs) n was (with_mark was d.channel d.on Used)
+  node_gains d is K few u D q =
+      ap (λ (a : View). with_mark a d.channel d.on Used) q
+      ∙ mark_more u D d.channel d.on (omega (arith, here)) (omega (arith, next))
+      ∙ ap (with_all u) (sym (joined D))
+    where
+      parts : (get_or vs n None ≡ Some d.channel) × (get_or vs (into w d.channel) None ≡ Some d.on)
+      parts = chosen_some (get_or vs n None) (λ c. get_or vs (into w c) None) d is
+
+      here : d.channel < channels w
+      here = (K n d.channel parts.0).0
+
+      next : d.on < channels w
+      next = (K (into w d.channel) d.on parts.1).0
+
+      joined : (D : Deps) → dep_of w vs D n ≡ more D d.channel d.on
+      joined D = rw (parts.0, dep_of) (rw parts.1)
 
 -- ---- a list of nodes or destinations
 

@@ -1,18 +1,19 @@
 -- Laws of up channels: the lowest channel of each node to a node one level nearer to the root.
-use Rattle.std.proofs.Common.{◌≡◌, ℕ, zero, suc, ◌<◌, ◌≤◌, Bool, true, eqb, ◌⊎◌, List, [], ◌∷◌, length, get_or, set, replicate, Some, None, Option, sym, refl, ap, ◌∙◌, subst, ap₂, inl, inr, arith}
+use Rattle.std.proofs.Common.{◌≡◌, ℕ, zero, suc, ◌+◌, ◌<◌, ◌≤◌, Bool, true, false, eqb, ◌⊎◌, List, [], ◌∷◌, length, get_or, set, replicate, filter, Some, None, Option, sym, refl, ap, ◌∙◌, subst, ap₂, inl, inr, ⊎_elim, arith}
 use mathlib.Core.Path.{fun_ext}
+use Rattle.std.specs.List.{find}
 use Rattle.std.proofs.lemmas.List.{length-map, length-replicate, get_or-map, get_or_past, set_past}
-use Rattle.std.proofs.lemmas.Bool.{cases_eq, cases_lt, and_parts, and_from, eqb-true, eq-eqb, both_ways}
+use Rattle.std.proofs.lemmas.Bool.{cases_Bool, cases_eq, cases_lt, and_parts, and_from, eqb-true, eq-eqb, both_ways}
 use Rattle.wiring.specs.Lists.{range, first_that}
 use Rattle.wiring.specs.Topologies.{Topology, channels, from, into, all_channels, all_nodes, Valid}
 use Rattle.wiring.specs.Levels.{levels, padded, spread, level_step, level_round}
 use Rattle.wiring.specs.Owned.{own}
-use Rattle.tree.specs.Ups.{or_zero, one_below, nearer, up_channels, Nearer, Up}
+use Rattle.tree.specs.Ups.{or_zero, one_below, up_among, nearer, up_channels, Nearer, Up}
 use Rattle.wiring.proofs.TopologyLaws.{none_some, inside_of, First, first_that_some, first_found, length_range, get_or_range, into_inside}
 use Rattle.tree.specs.Escapes.{Led, there, onward}
 use Rattle.wiring.proofs.LevelLaws.{levels_leveled, levels_long, level_of}
 use Rattle.plan_check.proofs.SearchedLaws.{fold_keeps}
-use Rattle.tree.proofs.FirstLaws.{first_kept}
+use Rattle.tree.proofs.FirstLaws.{first_find, first_kept}
 use Rattle.tree.proofs.RoomLaws.{none_there, get_or_padded}
 
 -- the level of a node as a number
@@ -162,18 +163,32 @@ module _ (w : Topology) (root : ℕ) (v : Valid w) where
 
 -- ---- the first of a node's own channels
 
-abbrev pub goes_nearer : Topology → List (Option ℕ) → ℕ → ℕ → Bool
-goes_nearer w ls n c = one_below ls (into w c) n
-
 -- the up channel is found among the node's own channels
 pub up_own : (w : Topology) (root n : ℕ) → n < w.nodes → get_or (up_channels w root) n None ≡ first_that (λ c. one_below (levels w root) (into w c) n) (own w n)
 up_own w root n h = ups_at w root n h ∙ first_kept (λ c. eqb (from w c) n) (λ c. one_below (levels w root) (into w c) n) (all_channels w)
 
 -- levels in room for 64 do as well
-pub up_found : (w : Topology) (root n : ℕ) (ls : List (Option ℕ)) (x : Option ℕ) → ls ≡ padded (levels w root) → x ≡ first_that (goes_nearer w ls n) (own w n) → n < w.nodes → x ≡ get_or (up_channels w root) n None
-up_found w root n ls x e q h =
+up_padded : (w : Topology) (root n : ℕ) → up_among w (padded (levels w root)) n ≡ first_that (λ c. one_below (levels w root) (into w c) n) (own w n)
+up_padded w root n =
     let L = levels w root in
-    q
-    ∙ ap (λ (ys : List (Option ℕ)). first_that (goes_nearer w ys n) (own w n)) e
+    first_find (λ c. one_below (padded L) (into w c) n) (own w n)
     ∙ ap (λ (p : ℕ → Bool). first_that p (own w n)) (fun_ext (λ c. ap₂ (λ (a b : Option ℕ). eqb (suc (or_zero a)) (or_zero b)) (get_or_padded L (into w c)) (get_or_padded L n)))
-    ∙ sym (up_own w root n h)
+
+-- what is no node has no channels
+none_start : (w : Topology) (v : Valid w) (n : ℕ) → w.nodes ≤ n → (k a : ℕ) → a + k ≤ channels w → filter (λ c. eqb (from w c) n) (range a k) ≡ []
+none_start w v n h zero a l = refl
+none_start w v n h (suc k) a l = rw (starts_not a (omega arith)) (none_start w v n h k (suc a) (omega arith))
+  where
+    starts_not : (c : ℕ) → c < channels w → eqb (from w c) n ≡ false
+    starts_not c m = ⊎_elim (λ t. absurd (let e = eqb-true (from w c) n t in let i = inside_of v c m in omega arith)) (λ f. f) (cases_Bool (eqb (from w c) n))
+
+none_own : (w : Topology) (v : Valid w) (n : ℕ) → w.nodes ≤ n → own w n ≡ []
+none_own w v n h = none_start w v n h (channels w) 0 (omega arith)
+
+-- the search finds the up channel, and nothing past the nodes
+pub up_found : (w : Topology) (root : ℕ) (v : Valid w) (n : ℕ) → up_among w (padded (levels w root)) n ≡ get_or (up_channels w root) n None
+up_found w root v n = at (cases_lt n w.nodes)
+  where
+    at : (n < w.nodes) ⊎ (w.nodes ≤ n) → up_among w (padded (levels w root)) n ≡ get_or (up_channels w root) n None
+    at (inl h) = up_padded w root n ∙ sym (up_own w root n h)
+    at (inr h) = ap (find (λ c. one_below (padded (levels w root)) (into w c) n)) (none_own w v n h) ∙ sym (get_or_past (up_channels w root) n None (let l = ups_long w root in omega arith))

@@ -1,5 +1,6 @@
 -- The dependencies of escape routes.
 use Rattle.std.specs.Prelude.{◌≡◌, ℕ, ◌<◌, true, false, List, [], ◌∷◌, length, Some, None, Option, slice_index, slice_index_or}
+use Rattle.wiring.specs.declared.dependencies.Dependency.{Dependency}
 use Rattle.wiring.specs.Lists.{fold}
 use Rattle.wiring.specs.Topologies.{Topology, into, all_nodes}
 use Rattle.plan_check.specs.Cycles.{Deps, has}
@@ -11,6 +12,13 @@ dep_of w vs acc n = elim (slice_index_or vs n None) [
   | None ↦ acc
   | Some c ↦
       elim (slice_index_or vs (into w c) None) [ None ↦ acc | Some e ↦ elim (has c e acc) [ true ↦ acc | false ↦ (c, e) ∷ acc ] ]
+]
+
+-- that dependency alone; none where either node has no channel
+abbrev pub dependency_at : Topology → List (Option ℕ) → ℕ → Option Dependency
+dependency_at w vs n = elim (slice_index_or vs n None) [
+  | None ↦ None
+  | Some c ↦ elim (slice_index_or vs (into w c) None) [ None ↦ None | Some e ↦ Some (record { channel = c; on = e }) ]
 ]
 
 -- the dependencies of the routes to d, on top of others

@@ -1,8 +1,10 @@
 -- Up channels: each node's lowest channel to a node one level nearer to the root.
 use Rattle.std.specs.Prelude.{◌≡◌, ℕ, suc, ◌<◌, Bool, ◌&&◌, List, map, get_or, Some, None, Option, ◌==◌, slice_index_or}
+use Rattle.std.specs.List.{find}
 use Rattle.wiring.specs.Lists.{first_that}
 use Rattle.wiring.specs.Topologies.{Topology, channels, from, into, all_channels, all_nodes}
 use Rattle.wiring.specs.Levels.{levels}
+use Rattle.wiring.specs.Owned.{own}
 
 abbrev pub or_zero : Option ℕ → ℕ
 or_zero None = 0
@@ -11,6 +13,10 @@ or_zero (Some a) = a
 -- the level at a, as a number, is one below that at b
 abbrev pub one_below : List (Option ℕ) → ℕ → ℕ → Bool
 one_below ls a b = suc (or_zero (slice_index_or ls a None)) == or_zero (slice_index_or ls b None)
+
+-- the lowest of a node's own channels that leads to a node one level nearer, by levels in any room
+abbrev pub up_among : Topology → List (Option ℕ) → ℕ → Option ℕ
+up_among w ls n = find (λ c. one_below ls (into w c) n) (own w n)
 
 -- the channel leads from n to a node one level nearer to the root
 abbrev pub nearer : Topology → List (Option ℕ) → ℕ → ℕ → Bool

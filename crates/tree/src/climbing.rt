@@ -1,28 +1,25 @@
 // Up channels: each node's lowest channel to a node one level nearer to the root.
-ghost use Rattle.std.specs.Prelude.{◌≡◌, ℕ, ◌<◌, length, None, slice_index_or};
+ghost use Rattle.std.specs.Prelude.{◌≡◌, ℕ, ◌<◌, None, slice_index_or};
 ghost use Rattle.wiring.specs.Levels.{padded};
-ghost use Rattle.wiring.specs.Lists.{first_that};
 ghost use Rattle.wiring.specs.Networks.{net};
-ghost use Rattle.wiring.specs.Owned.{own};
-ghost use Rattle.wiring.specs.Topologies.{into};
 ghost use Rattle.tree.specs.Escapes.{AllClimb};
-ghost use Rattle.tree.specs.Ups.{or_zero, one_below, up_channels, Up};
+ghost use Rattle.tree.specs.Ups.{or_zero, one_below, up_among, up_channels, Up};
 ghost use Rattle.tree.specs.Trees.{net_of, ups_of};
 
+use crate::tables::at_node;
 use crate::trees::EscapeTree;
+use std::array;
 use wiring::Network;
 
 /// A node's level, 0 where it has none.
-fn level_at(levels: &[Option<u8>], node: u8) -> u8
-    requires { node < length levels.now }
+fn level_at(levels: &[Option<u8>; 64], node: u8) -> u8
     ensures { result ≡ or_zero (slice_index_or levels.now node None) }
 {
-    levels[node as usize].unwrap_or(0)
+    at_node(levels, node).unwrap_or(0)
 }
 
 /// Whether a node is one level nearer to the root than another.
-fn is_one_below(levels: &[Option<u8>], near: u8, far: u8) -> bool
-    requires { (near < length levels.now) × (far < length levels.now) }
+fn is_one_below(levels: &[Option<u8>; 64], near: u8, far: u8) -> bool
     ensures { result ≡ one_below levels.now near far }
 {
     let level = level_at(levels, far);
@@ -30,19 +27,12 @@ fn is_one_below(levels: &[Option<u8>], near: u8, far: u8) -> bool
 }
 
 /// The lowest of a node's own channels that leads to a node one level nearer.
-fn up_channel(network: &Network, levels: &[Option<u8>], node: u8) -> Option<u8>
-    requires { (length levels.now ≡ 64) × (node < 64) }
-    ensures { result ≡ first_that (λ c. one_below levels.now (into (net network.now) c) node) (own (net network.now) node) }
+fn up_channel(network: &Network, levels: &[Option<u8>; 64], node: u8) -> Option<u8>
+    ensures { result ≡ up_among (net network.now) levels.now node }
 {
     let wiring = network.wiring();
-    let own = network.own(node);
-    for i in 0..own.len() {
-        let channel = own[i];
-        if is_one_below(levels, wiring.into(channel), node) {
-            return Some(channel);
-        }
-    }
-    None
+    let leads_nearer = |channel: &u8| is_one_below(levels, wiring.into(*channel), node);
+    network.own(node).iter().copied().find(leads_nearer)
 }
 
 impl<'a> EscapeTree<'a> {
@@ -56,10 +46,12 @@ impl<'a> EscapeTree<'a> {
     {
         let wiring = network.wiring();
         let levels = wiring.levels(root);
-        let mut ups = [None; 64];
-        for n in 0..wiring.nodes() {
-            ups[n as usize] = up_channel(network, &levels, n);
-        }
+        let ups = array::from_fn(
+            |node|
+                requires { node < 64 }
+                ensures { result ≡ up_among (net network.entry.now) levels node }
+            { up_channel(network, &levels, node as u8) },
+        );
         EscapeTree { wiring, root, ups }
     }
 
@@ -68,9 +60,6 @@ impl<'a> EscapeTree<'a> {
         ensures answer { result ≡ slice_index_or (ups_of self.now) node None }
         ensures lowest { Up (net_of self.now) self.now.root node result }
     {
-        if node >= 64 {
-            return None;
-        }
-        self.ups[node as usize]
+        at_node(&self.ups, node)
     }
 }

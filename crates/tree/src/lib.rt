@@ -4,6 +4,7 @@
 mod climbing;
 mod descending;
 mod marking;
+mod tables;
 mod trees;
 
 pub use trees::EscapeTree;

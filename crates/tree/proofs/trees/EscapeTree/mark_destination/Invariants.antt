@@ -5,5 +5,5 @@ use Rattle.tree.specs.Trees.{net_of}
 use Rattle.tree.proofs.MarkingLaws.{Added}
 use Rattle.tree.proofs.trees.EscapeTree.mark_destination.Given as goal
 
-abbrev pub invariant-loop-n : goal.invariant-loop-n
-invariant-loop-n l = Added (dep_of (net_of l.self) l.routes) (all_nodes (net_of l.self)) l.n (marked l.initial.marks) (marked l.marks)
+abbrev pub invariant-loop-node : goal.invariant-loop-node
+invariant-loop-node l = Added (dep_of (net_of l.self) l.routes) (all_nodes (net_of l.self)) l.node (marked l.initial.marks) (marked l.marks)

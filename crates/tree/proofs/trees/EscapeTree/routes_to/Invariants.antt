@@ -1,4 +1,4 @@
-use Rattle.std.proofs.Common.{◌≡◌, length}
+use Rattle.std.proofs.Common.{◌≡◌}
 use Rattle.wiring.specs.Levels.{padded}
 use Rattle.tree.specs.Escapes.{descend, escape_routes}
 use Rattle.tree.specs.Trees.{net_of, ups_of}
@@ -10,7 +10,7 @@ abbrev pub invariant-loop-channel : goal.invariant-loop-channel
 invariant-loop-channel l =
     let w = net_of l.self in
     let us = ups_of l.self in
-    (length l.routes ≡ 64) × (descend w us (level w l.self.root l.node) l.node l.routes ≡ padded (escape_routes w us l.destination))
+    descend w us (level w l.self.root l.node) l.node l.routes ≡ padded (escape_routes w us l.destination)
 
 abbrev pub decreases-loop-channel : goal.decreases-loop-channel
 decreases-loop-channel l = level (net_of l.self) l.self.root l.node

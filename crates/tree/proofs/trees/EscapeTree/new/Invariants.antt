@@ -1,7 +1,0 @@
-use Rattle.wiring.specs.Wirings.{topology}
-use Rattle.tree.specs.Ups.{up_channels}
-use Rattle.tree.proofs.RoomLaws.{Filled}
-use Rattle.tree.proofs.trees.EscapeTree.new.Given as goal
-
-abbrev pub invariant-loop-n : goal.invariant-loop-n
-invariant-loop-n l = Filled (up_channels (topology l.wiring) l.root) l.n l.ups
