@@ -6,6 +6,7 @@ use fault::Fault;
 use wiring::Cell;
 
 /// For each node number 0 to 63: whether a card is seated, which channels are its own, whether its gate is open, and 64 cells.
+// Node and destination stay two parameters: each test and each fault speaks of one of them.
 pub trait Bank {
     ghost view: { Self → View };
 

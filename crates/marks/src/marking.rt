@@ -12,7 +12,7 @@ pub(crate) fn mark_in(run: &[Mark; 57600], dependency: Dependency) -> Mark
     ensures { result ≡ mark_in run.now dependency.channel dependency.on }
 {
     match Spot::of(dependency) {
-        Some(spot) => run[spot.place()],
+        Some(spot) => run[spot.dependency.place()],
         None => Mark::Unused,
     }
 }
@@ -22,7 +22,7 @@ pub(crate) fn set_mark(run: &mut [Mark; 57600], dependency: Dependency, mark: Ma
     ensures { mark_in run.new ≡ with_mark (mark_in run.old) dependency.channel dependency.on mark }
 {
     if let Some(spot) = Spot::of(dependency) {
-        run[spot.place()] = mark;
+        run[spot.dependency.place()] = mark;
     }
 }
 

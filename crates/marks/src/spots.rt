@@ -1,5 +1,5 @@
 // Where the mark of a dependency stands.
-ghost use Rattle.std.specs.Prelude.{◌≡◌, ◌+◌, ◌*◌, ◌<◌, false, MatchOption};
+ghost use Rattle.std.specs.Prelude.{◌≡◌, ◌<◌, false, MatchOption};
 ghost use Rattle.marks.specs.Marked.{in_square};
 
 use wiring::Dependency;
@@ -21,12 +21,5 @@ impl Spot {
         } else {
             None
         }
-    }
-
-    /// Its place in a run of marks.
-    pub(crate) fn place(self) -> usize
-        ensures { result ≡ 240 * self.dependency.channel + self.dependency.on }
-    {
-        240 * self.dependency.channel as usize + self.dependency.on as usize
     }
 }

@@ -27,7 +27,7 @@ impl<'a> Trial<'a> {
         ensures place { result.place ≡ 240 * spot.dependency.channel + spot.dependency.on }
         ensures same { result.run.ghost_name ≡ run.entry.ghost_name }
     {
-        let place = spot.place();
+        let place = spot.dependency.place();
         run[place] = Mark::Used;
         Trial { run, place }
     }

@@ -16,6 +16,7 @@ use crate::trials::Trial;
 use wiring::{Dependency, Network};
 
 /// Puts an unused dependency on trial, and keeps it used unless it closes a cycle.
+// Run and network stay two parameters: the guard takes the run alone.
 fn use_unless_closing(run: &mut [Mark; 57600], network: &Network, spot: Spot) -> bool
     requires { mark_in run.old spot.dependency.channel spot.dependency.on ≡ Mark.Unused }
     ensures kept { result ≡ true → mark_in run.new ≡ with_mark (mark_in run.old) spot.dependency.channel spot.dependency.on Mark.Used }

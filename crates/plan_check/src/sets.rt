@@ -4,7 +4,7 @@ ghost use Rattle.plan_check.specs.Marks.{is_gone, mark};
 
 use wiring::Dependency;
 
-/// A set of channels, marked at their places.
+/// A set of channels, marked at their places. Fixed memory: no `HashSet`.
 #[derive(Drop)]
 pub(crate) struct ChannelSet {
     marks: [bool; 240],
@@ -34,18 +34,11 @@ impl ChannelSet {
     }
 }
 
-/// A set of dependencies, in a square of 240 on a side: that of channel c on channel e is marked at place 240 c + e.
+/// A set of dependencies, in a square of 240 on a side: that of channel c on channel e is marked at place 240 c + e. Fixed memory: no `HashSet`.
 #[derive(Drop)]
 pub(crate) struct DependencySet {
     marks: [bool; 57600],
     ghost size: { length marks ≡ 57600 },
-}
-
-/// The place of a dependency in the square.
-fn place(dependency: Dependency) -> usize
-    ensures { result ≡ 240 * dependency.channel + dependency.on }
-{
-    240 * dependency.channel as usize + dependency.on as usize
 }
 
 impl DependencySet {
@@ -61,12 +54,12 @@ impl DependencySet {
         requires { (dependency.channel < 240) × (dependency.on < 240) }
         ensures { self.new.marks ≡ slice_set self.old.marks (240 * dependency.channel + dependency.on) true }
     {
-        self.marks[place(dependency)] = true;
+        self.marks[dependency.place()] = true;
     }
 
     pub(crate) fn contains(&self, dependency: Dependency) -> bool
         ensures { result ≡ mark self.now.marks dependency.channel dependency.on }
     {
-        self.marks.get(place(dependency)).copied().unwrap_or(false)
+        self.marks.get(dependency.place()).copied().unwrap_or(false)
     }
 }

@@ -9,6 +9,7 @@ use fault::Fault;
 use wiring::{Cell, Cells};
 
 /// The bytes of a cell.
+// No `From`: neither the cell nor the array is a type of this crate.
 fn cell_bytes(cell: Cell) -> [u8; 2]
     ensures { result ≡ cell_bytes cell }
 {
@@ -32,6 +33,7 @@ fn write_parts<F: Fn(u8, &mut [u8])>(count: u8, width: usize, memory: &mut [u8],
 }
 
 /// The cells of a destination, node by node.
+// `nodes` and `cells` stay two parameters, as the caller has them: a struct would live for this one call.
 fn write_row<T: Cells>(nodes: u8, cells: &T, destination: u8, row: &mut [u8])
     requires { length row.old ≡ 2 * nodes }
     ensures { row.new ≡ row_bytes (T.Cells.meant cells.now) destination (range 0 nodes) }
