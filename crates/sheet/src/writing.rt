@@ -9,6 +9,7 @@ use fault::Fault;
 use wiring::{Cell, Cells};
 
 /// The bytes of a cell.
+// No `From`: neither a cell nor an array is a type of this crate.
 fn cell_bytes(cell: Cell) -> [u8; 2]
     ensures { result ≡ cell_bytes cell }
 {
