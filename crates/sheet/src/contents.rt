@@ -35,7 +35,7 @@ impl<'a> Lines<'a> {
         }
     }
 
-    /// The first line that fails the test of its letter.
+    /// The first line that fails the test of its letter, where `passes` is what the test computes.
     fn first_failing<T: Fn(Letter, Line) -> bool>(&self, test: T) -> Option<u8>
         ghost passes: { Due → Found → Bool }
         requires callable { T.IsAlwaysCallable test }

@@ -58,6 +58,7 @@ impl Ports {
         if node >= 64 {
             return &[];
         }
+        // By index: a pattern on the two entries is no plainer.
         let begin = self.begins[node as usize];
         let end = self.begins[node as usize + 1];
         &self.channels[begin as usize..end as usize]
