@@ -1,5 +1,5 @@
 -- Marks in a run: all unused, and one changed.
-use Rattle.std.proofs.Common.{◌≡◌, ℕ, ◌+◌, ◌*◌, ◌<◌, Bool, true, false, cond, ◌&&◌, eqb, ltb, ◌⊎◌, List, length, get_or, set, sym, refl, ap, ◌∙◌, inl, inr, arith}
+use Rattle.std.proofs.Common.{◌≡◌, ℕ, ◌+◌, ◌*◌, ◌<◌, ◌≤◌, Bool, true, false, cond, ◌&&◌, eqb, ltb, ◌⊎◌, List, length, get_or, set, sym, refl, ap, ◌∙◌, inl, inr, arith}
 use mathlib.Core.Path.{fun_ext}
 use Rattle.std.proofs.lemmas.List.{get_or-set_same, get_or-set_other, set-set, set-get_or}
 use Rattle.std.proofs.lemmas.Bool.{lt-ltb, ltb-true, eq-eqb, eqb-true, eqb-false, false≢true, cond-true, and_parts, and_from}
@@ -22,7 +22,7 @@ pub mark_place : (run : List Mark) (c e : ℕ) → c < 240 → e < 240 → mark_
 mark_place run c e lc le = cond-true (in_square c e) (get_or run (240 * c + e) Unused) Unused (in_square_from c e lc le)
 
 -- one place of a run is one mark
-module _ (run : List Mark) (c e : ℕ) (x : Mark) (lc : c < 240) (le : e < 240) (size : length run ≡ 57600) where
+module _ (run : List Mark) (c e : ℕ) (x : Mark) (lc : c < 240) (le : e < 240) (size : 57600 ≤ length run) where
   at_place : (i j : ℕ) (b : Bool) → in_square i j ≡ b → cond b (get_or (set run (240 * c + e) x) (240 * i + j) Unused) Unused ≡ cond (eqb c i && eqb e j) x (cond b (get_or run (240 * i + j) Unused) Unused)
   at_place i j true q = go (eqb c i) (eqb e j) refl refl
     where

@@ -1,4 +1,4 @@
-use Rattle.std.proofs.Common.{◌≡◌, ◌+◌, ◌*◌, sym, ap, ◌∙◌, subst, rules}
+use Rattle.std.proofs.Common.{◌≡◌, ◌+◌, ◌*◌, sym, ap, ◌∙◌, subst, arith, rules}
 use Rattle.wiring.specs.Networks.{net}
 use Rattle.marks.specs.declared.kinds.Mark.TheVariants.{Used}
 use Rattle.marks.specs.Marked.{View, mark_in, with_mark}
@@ -18,7 +18,7 @@ returns-then-closes_cycle-clause-back c =
 searched : (c : After-closes_cycle) → mark_in c.run.result.now ≡ with_mark (mark_in c.args.run.now) c.args.spot.dependency.channel c.args.spot.dependency.on Used
 searched c =
     let d = c.args.spot.dependency in
-    ap mark_in (c.run.ensures ∙ c.begin-trial.ensures.run) ∙ mark_set c.args.run.now d.channel d.on Used c.args.spot.within.0 c.args.spot.within.1 c.told-run
+    ap mark_in (c.run.ensures ∙ c.begin-trial.ensures.run) ∙ mark_set c.args.run.now d.channel d.on Used c.args.spot.within.0 c.args.spot.within.1 (omega (arith, c.told-run))
 
 pub returns-then-closes_cycle-clause-closed : goal.returns-then-closes_cycle-clause-closed
 returns-then-closes_cycle-clause-closed c = λ _.
