@@ -137,7 +137,8 @@ fn ask<B: Bank>(bank: &B, node: u8, destination: u8) -> Answers {
 }
 
 fn tell_same<A: Bank, B: Bank>(a: &A, b: &B) -> bool {
-    (0..25u8).all(|i| ask(a, i % 5, i / 5) == ask(b, i % 5, i / 5))
+    (0..5).all(|node| (0..5).all(|destination| ask(a, node, destination)
+        == ask(b, node, destination)))
 }
 
 #[test]

@@ -37,7 +37,10 @@ fn tell_same<A: Bank, B: Bank>(a: &A, b: &B, node: u8, destination: u8) -> bool 
 
 /// How many of the nine cells two banks tell alike.
 fn count_same<A: Bank, B: Bank>(a: &A, b: &B) -> usize {
-    (0..9u8).filter(|&i| tell_same(a, b, i % 3, i / 3)).count()
+    (0..3)
+        .flat_map(|node| (0..3).map(move |destination| (node, destination)))
+        .filter(|&(node, destination)| tell_same(a, b, node, destination))
+        .count()
 }
 
 /// The numbers 0, 1 and 2 go to the slots 1, 2 and 0, and all others stay.
