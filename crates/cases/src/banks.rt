@@ -88,6 +88,8 @@ const CALLS: [Call; 60] = [
 
 type Pile = Joined<SlotMap<SlotMap<PortCards>>, FlatBank>;
 
+/// The first three slots as given, and all others straight.
+// The tour has the like: a program and a crate of tests share no code.
 fn turned(first: [u8; 3]) -> [u8; 64] {
     let mut map = [0; 64];
     for (slot, node) in map.iter_mut().zip(0..) {

@@ -44,6 +44,7 @@ fn count_same<A: Bank, B: Bank>(a: &A, b: &B) -> usize {
 }
 
 /// The numbers 0, 1 and 2 go to the slots 1, 2 and 0, and all others stay.
+// The tests have the like: a program and a crate of tests share no code.
 fn turned() -> [u8; 64] {
     let mut map = [0; 64];
     for (slot, node) in map.iter_mut().zip(0..) {

@@ -13,6 +13,7 @@ fn show_verdict(rt: &impl Print, name: &str, wiring: &Wiring, grid: &Grid) -> io
 }
 
 /// The channels of a route.
+// No struct of wiring and grid: it would live for the printing alone.
 fn show_route(
     rt: &impl Print,
     wiring: &Wiring,
