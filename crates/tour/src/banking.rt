@@ -35,12 +35,16 @@ fn tell_same<A: Bank, B: Bank>(a: &A, b: &B, node: u8, destination: u8) -> bool 
     cell.is_ok() && cell == b.cell(node, destination)
 }
 
+/// How many of a card's three cells two banks tell alike.
+fn count_at<A: Bank, B: Bank>(a: &A, b: &B, node: u8) -> usize {
+    (0..3u8)
+        .filter(|&destination| tell_same(a, b, node, destination))
+        .count()
+}
+
 /// How many of the nine cells two banks tell alike.
 fn count_same<A: Bank, B: Bank>(a: &A, b: &B) -> usize {
-    (0..3)
-        .flat_map(|node| (0..3).map(move |destination| (node, destination)))
-        .filter(|&(node, destination)| tell_same(a, b, node, destination))
-        .count()
+    (0..3).fold(0usize, |sum, node| sum.saturating_add(count_at(a, b, node)))
 }
 
 /// The numbers 0, 1 and 2 go to the slots 1, 2 and 0, and all others stay.
