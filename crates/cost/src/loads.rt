@@ -7,7 +7,7 @@ ghost use Rattle.std.proofs.Common.{rules, arith};
 use crate::kinds::Cost;
 
 /// The loads of the channels added up, which stops at 4,294,967,295.
-// Not one generic type with `Hops`: they step by different numbers, and no bound of std says "an unsigned number and its greatest".
+// Not one generic type with `Hops`: they step by different numbers, so each would keep an impl of `Cost` of its own.
 #[derive(Clone, Copy, PartialEq, Eq, PartialOrd, Ord)]
 pub struct Load {
     total: u32,

@@ -2,7 +2,7 @@
 ghost use Rattle.std.specs.Prelude.{◌≡◌, ◌+◌, ◌≤◌, not, length, count_by};
 
 /// The channels that a search has seen, and a stack of those that it has still to look at.
-// Fixed memory: a library without a heap keeps its stack in an array with its count beside.
+// Memory is fixed: std has no stack in an array, no other library stands under the controller, and a type for this one stack would be no plainer.
 #[derive(Drop)]
 pub(crate) struct Visits {
     pub(crate) seen: [bool; 240],

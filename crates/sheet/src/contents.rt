@@ -52,6 +52,8 @@ impl<'a> Lines<'a> {
         None
     }
 
+    // The two fault by different cases, which they make themselves: a second closure for that would be no plainer.
+
     /// Refuses the first line whose letter is not the one due.
     fn check_letters(&self) -> Result<(), Fault>
         ensures { result ≡ judged (first_line (has_letter self.now.sheet.now) LetterFault 0 self.now.due.now) }

@@ -1,7 +1,10 @@
 // The letters of contents lines.
-ghost use Rattle.std.specs.Prelude.{◌≡◌};
+ghost use Rattle.std.specs.Prelude.{◌≡◌, Some, codes};
 ghost use Rattle.std.specs.Result.{result_ok, IfErr};
 ghost use Rattle.sheet.specs.Letters.{code, letter_of, fit_size};
+
+use std::error::Error;
+use std::fmt;
 
 /// What a line's body holds: links, the number of nodes, the number of layers, or the cells of a plan.
 #[derive(Clone, Copy, PartialEq, Eq, Debug)]
@@ -44,6 +47,16 @@ impl From<Letter> for u8 {
 pub struct UnknownLetter {
     pub byte: u8,
 }
+
+impl fmt::Display for UnknownLetter {
+    ghost output = { λ _. Some (codes "no letter of a sheet") };
+
+    fn fmt<W: fmt::Write>(&self, f: &mut fmt::Formatter<W>) -> fmt::Result {
+        write!(f, "no letter of a sheet")
+    }
+}
+
+impl Error for UnknownLetter {}
 
 /// The letter that a byte stands for.
 impl TryFrom<u8> for Letter {

@@ -22,6 +22,7 @@ pub(crate) fn byte_at(bytes: &[u8], place: usize) -> u8
 }
 
 /// A sheet, and what is left of it after the lines that were read.
+// No `Iterator`: lines are taken one way by `step` and another by `section`, and a loop over either would hold the reader.
 #[derive(Clone, Copy, Debug)]
 pub struct Reader<'a> {
     sheet: &'a [u8],
@@ -41,6 +42,8 @@ impl<'a> Reader<'a> {
             [] => Reader { sheet, rest: sheet },
         }
     }
+
+    // That a step leaves the sheet and goes on by a line is two clauses, here and below: callers rewrite by each alone.
 
     /// The next line, where a whole one is left.
     pub fn step(&mut self) -> Option<Line>

@@ -19,6 +19,7 @@ fn read_links(body: &[u8]) -> [Link; 120]
 {
     let mut links = [Link::new(0, 0); 120];
     let (pairs, _) = body.as_chunks::<2>();
+    // Not `array::from_fn`: it would ask at each of 120 places whether there is a pair.
     for (place, [first, second]) in pairs.iter().enumerate() {
         links[place] = Link::new(*first, *second);
     }

@@ -52,20 +52,16 @@ impl Wiring {
     pub fn from(&self, channel: u8) -> u8
         ensures { result ≡ from (topology self.now) channel }
     {
-        match self.links().get(channel as usize / 2) {
-            Some(link) => start(*link, channel),
-            None => 0,
-        }
+        self.links()
+            .get(channel as usize / 2)
+            .map_or(0, |link| start(*link, channel))
     }
 
     /// The node that a channel ends at; 0 where the wiring has no such channel.
     pub fn into(&self, channel: u8) -> u8
         ensures { result ≡ into (topology self.now) channel }
     {
-        match partner_of(channel) {
-            Some(partner) => self.from(partner),
-            None => 0,
-        }
+        partner_of(channel).map_or(0, |partner| self.from(partner))
     }
 
     /// Whether the wiring has the channel and it starts at the node.

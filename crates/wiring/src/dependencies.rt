@@ -9,7 +9,7 @@ pub struct Dependency {
 }
 
 impl Dependency {
-    /// Its place in a square of 240 channels by 240, row by row.
+    /// Its place in a square of 240 channels by 240, row by row, where both are below 240.
     pub fn place(self) -> usize
         ensures { result ≡ 240 * self.channel + self.on }
     {

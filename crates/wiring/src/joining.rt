@@ -23,6 +23,7 @@ fn offer(ranks: &mut [Option<u8>], round: u8, start: u8, end: u8)
 fn begin(ranks: &mut [Option<u8>], root: u8)
     ensures { ranks.new ≡ slice_set ranks.old root (Some 0) }
 {
+    // By index: after a `get_mut` no element is known.
     if (root as usize) < ranks.len() {
         ranks[root as usize] = Some(0);
     }

@@ -8,34 +8,34 @@ use crate::own::Ports;
 use crate::wirings::Wiring;
 
 /// Adds the own channels of a node behind the first ones, and answers where they end.
-fn list_own(wiring: &Wiring, held: &mut [u8], node: u8, begin: u8) -> u8
-    requires room { (length held.old ≡ 240) × (begin + length (own (topology wiring.now) node) ≤ 240) }
+fn list_own(wiring: &Wiring, held: &mut [u8; 240], node: u8, begin: u8) -> u8
+    requires { begin + length (own (topology wiring.now) node) ≤ 240 }
     ensures end { result ≡ begin + length (own (topology wiring.now) node) }
     ensures after { take result held.new ≡ take begin held.old ++ own (topology wiring.now) node }
 {
     let count = wiring.channels();
     // No `Vec` to push to: memory is fixed.
     let mut top = begin;
-    for c in 0..count {
-        if wiring.from(c) != node {
+    for channel in 0..count {
+        if wiring.from(channel) != node {
             continue;
         }
-        held[top as usize] = c;
+        held[top as usize] = channel;
         top += 1;
     }
     top
 }
 
 /// Lists the own channels of every node, one node behind the other.
-fn list_all(wiring: &Wiring, held: &mut [u8], begins: &mut [u8])
-    requires sizes { (length held.old ≡ 240) × (length begins.old ≡ 65) × (slice_index begins.old 0 ≡ 0) }
+fn list_all(wiring: &Wiring, held: &mut [u8; 240], begins: &mut [u8; 65])
+    requires { slice_index begins.old 0 ≡ 0 }
     ensures begun { (i : ℕ) → i < 65 → slice_index begins.new i ≡ length (laid (topology wiring.now) i) }
     ensures after { take (length (laid (topology wiring.now) 64)) held.new ≡ laid (topology wiring.now) 64 }
 {
     // Not over `begins` itself: each turn reads one entry and writes the next.
-    for n in 0..64u8 {
-        let begin = begins[n as usize];
-        begins[n as usize + 1] = list_own(wiring, held, n, begin);
+    for node in 0..64u8 {
+        let begin = begins[node as usize];
+        begins[node as usize + 1] = list_own(wiring, held, node, begin);
     }
 }
 

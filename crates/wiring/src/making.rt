@@ -36,6 +36,7 @@ fn renewed(links: &[Link]) -> [Link; 120]
     ensures len { length result ≡ 120 }
 {
     let mut held = [Link::new(0, 0); 120];
+    // Not `array::from_fn`: it would ask at each of 120 places whether there is a link.
     for (place, link) in links.iter().enumerate() {
         held[place] = Link::new(link.first, link.second);
     }

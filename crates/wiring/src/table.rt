@@ -3,7 +3,7 @@ ghost use Rattle.std.specs.Prelude.{◌≡◌};
 ghost use Rattle.wiring.specs.Tables.{Table};
 
 /// A forwarding cell: empty, or the channel to take and its layer.
-// No `Option`: an empty cell is a state of the card, which sheets, calls and clauses name.
+// No `Option<Hop>`: a bank's `Ok(None)`, a reader's `None` and an empty cell would read alike.
 #[derive(Clone, Copy, PartialEq, Eq, Debug)]
 pub enum Cell {
     Empty,

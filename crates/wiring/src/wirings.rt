@@ -11,7 +11,7 @@ use crate::links::Link;
 pub struct Wiring {
     pub(crate) nodes: u8,
     pub(crate) layers: u8,
-    /// How many of the links there are. Memory is fixed, so they lie in an array with room for all, and not in a `Vec`.
+    /// How many of the links there are. Memory is fixed, so they lie in an array with room for all: std has no list of that kind, and no other library stands under the controller.
     pub(crate) count: u8,
     pub(crate) links: [Link; 120],
     ghost few: { nodes ≤ 64 },

@@ -3,7 +3,7 @@ use Rattle.wiring.specs.Owned.{laid}
 use Rattle.wiring.specs.Wirings.{topology}
 use Rattle.wiring.proofs.laying.list_all.Given as goal
 
-abbrev pub invariant-loop-n : goal.invariant-loop-n
-invariant-loop-n l =
-    ((i : ℕ) → i ≤ l.n → get_or l.begins i 0 ≡ length (laid (topology l.wiring) i))
-    × (take (length (laid (topology l.wiring) l.n)) l.held ≡ laid (topology l.wiring) l.n)
+abbrev pub invariant-loop-node : goal.invariant-loop-node
+invariant-loop-node l =
+    ((i : ℕ) → i ≤ l.node → get_or l.begins i 0 ≡ length (laid (topology l.wiring) i))
+    × (take (length (laid (topology l.wiring) l.node)) l.held ≡ laid (topology l.wiring) l.node)

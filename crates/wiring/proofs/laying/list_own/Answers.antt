@@ -3,28 +3,26 @@ use Rattle.wiring.specs.Wirings.{topology}
 use Rattle.wiring.proofs.LaidLaws.{listed_miss, listed_hit, listed_room}
 use Rattle.wiring.proofs.laying.list_own.Goals as goal
 
-pub loop-c-preserved-then-from-node : goal.loop-c-preserved-then-from-node
-loop-c-preserved-then-from-node c =
-    let l = c.loop-c in
-    listed_miss (topology c.args.wiring.now) c.args.node c.args.begin c.args.held.now l.c l.held l.top l.invariant (λ e. c.if-from-node.true (c.from.ensures ∙ e))
+pub loop-channel-preserved-then-from-node : goal.loop-channel-preserved-then-from-node
+loop-channel-preserved-then-from-node c =
+    let l = c.loop-channel in
+    listed_miss (topology c.args.wiring.now) c.args.node c.args.begin c.args.held.now l.channel l.held l.top l.invariant (λ e. c.if-from-node.true (c.from.ensures ∙ e))
 
 -- one more channel starts at the node, so there is room for it
-room : (c : goal.Else-from-node) → c.loop-c.top < 240
+room : (c : goal.After-way_told-1) → c.loop-channel.top < 240
 room c =
-    let l = c.loop-c in
-    let below = c.loop-c-test.true in
+    let l = c.loop-channel in
+    let below = c.loop-channel-test.true in
     let count = c.channels-count.ensures in
-    let free = c.requires.room.1 in
-    let h = listed_room (topology c.args.wiring.now) c.args.node c.args.begin c.args.held.now l.c l.held l.top l.invariant (omega arith) (sym c.from.ensures ∙ c.if-from-node.false) in
+    let free = c.requires in
+    let h = listed_room (topology c.args.wiring.now) c.args.node c.args.begin c.args.held.now l.channel l.held l.top l.invariant (omega arith) (sym c.from.ensures ∙ c.if-from-node.false) in
     omega arith
 
 pub bounds-held-top : goal.bounds-held-top
-bounds-held-top c = let h = room c in let long = c.loop-c.auto.held in let size = c.requires.room.0 in omega arith
+bounds-held-top c = let h = room c in omega arith
 
-pub loop-c-preserved : goal.loop-c-preserved
-loop-c-preserved c =
-    let l = c.loop-c in
+pub loop-channel-preserved : goal.loop-channel-preserved
+loop-channel-preserved c =
+    let l = c.loop-channel in
     let h = room c in
-    let long = c.loop-c.auto.held in
-    let size = c.requires.room.0 in
-    listed_hit (topology c.args.wiring.now) c.args.node c.args.begin c.args.held.now l.c l.held l.top l.invariant (omega arith) (sym c.from.ensures ∙ c.if-from-node.false)
+    listed_hit (topology c.args.wiring.now) c.args.node c.args.begin c.args.held.now l.channel l.held l.top l.invariant (omega arith) (sym c.from.ensures ∙ c.if-from-node.false)

@@ -10,8 +10,8 @@ invariant_of-result c =
     let w = topology c.args.wiring.now in
     let begun = c.list_all.ensures.begun in
     record {
-      room = c.list_all.auto.held;
-      nodes = c.list_all.auto.begins;
+      room = c.list_all.array_long;
+      nodes = c.list_all.array_long2;
       rises = λ n l. let a = begun n (omega arith) in let b = begun (n + 1) (omega arith) in let s = laid_short w n (n + 1) (omega arith) in omega arith;
       within = λ n l. let a = begun n l in let f = laid_few w n in let most = few_channels c.args.wiring.now in omega arith;
     }
