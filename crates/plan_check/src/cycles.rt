@@ -6,7 +6,7 @@ ghost use Rattle.plan_check.specs.Cycles.{Deps, acyclic};
 ghost use Rattle.plan_check.specs.Rules.{deps_in};
 ghost use Rattle.plan_check.specs.Marks.{Noted, HeldAmong, FreeAmong, Left, Swept, is_gone};
 
-use crate::sets::{ChannelSet, DependencySet};
+use crate::sets::PlaceSet;
 use crate::sound::SoundCells;
 use wiring::{Cells, Dependency, Network};
 
@@ -14,17 +14,17 @@ use wiring::{Cells, Dependency, Network};
 #[derive(Drop)]
 struct Layer<'a> {
     network: &'a Network<'a>,
-    noted: DependencySet,
+    noted: PlaceSet<57600>,
 }
 
 impl Layer<'_> {
     /// Whether a channel depends on one of these that is left.
-    fn is_held(&self, own: &[u8], gone: &ChannelSet, channel: u8) -> bool
+    fn is_held(&self, own: &[u8], gone: &PlaceSet<240>, channel: u8) -> bool
         ensures held { result ≡ true → HeldAmong own.now self.now.noted.marks gone.now.marks channel }
         ensures free { result ≡ false → FreeAmong own.now self.now.noted.marks gone.now.marks channel (length own.now) }
     {
         for &on in own {
-            if self.noted.contains(Dependency { channel, on }) && !gone.contains(on) {
+            if self.noted.contains(Dependency { channel, on }.place()) && !gone.contains(on as usize) {
                 return true;
             }
         }
@@ -32,31 +32,31 @@ impl Layer<'_> {
     }
 
     /// Takes away the channels that depend on nothing that is left, upward; whether there was one.
-    fn sweep(&self, gone: &mut ChannelSet) -> bool
+    fn sweep(&self, gone: &mut PlaceSet<240>) -> bool
         ensures { Swept (net self.now.network.now) self.now.noted.marks gone.old.marks gone.new.marks result }
     {
         let wiring = self.network.wiring();
         let mut taken = false;
         for c in 0..wiring.channels() {
-            if gone.contains(c) {
+            if gone.contains(c as usize) {
                 continue;
             }
             if self.is_held(self.network.own(wiring.into(c)), gone, c) {
                 continue;
             }
-            gone.insert(c);
+            gone.insert(c as usize);
             taken = true;
         }
         taken
     }
 
     /// Whether a channel is left.
-    fn any_left(&self, gone: &ChannelSet) -> bool
+    fn any_left(&self, gone: &PlaceSet<240>) -> bool
         ensures left { result ≡ true → Left gone.now.marks (channels (net self.now.network.now)) }
         ensures all { result ≡ false → ((c : ℕ) → c < channels (net self.now.network.now) → is_gone gone.now.marks c ≡ true) }
     {
         for c in 0..self.network.wiring().channels() {
-            if !gone.contains(c) {
+            if !gone.contains(c as usize) {
                 return true;
             }
         }
@@ -67,7 +67,7 @@ impl Layer<'_> {
     fn cycle_stays(&self) -> bool
         ensures { (D : Deps) → Noted (net self.now.network.now) self.now.noted.marks D → result ≡ not (acyclic D) }
     {
-        let mut gone = ChannelSet::new();
+        let mut gone: PlaceSet<240> = PlaceSet::new();
         while self.sweep(&mut gone) {}
         self.any_left(&gone)
     }

@@ -8,7 +8,7 @@ ghost use Rattle.plan_check.specs.Rules.{dep_at, deps_in};
 ghost use Rattle.plan_check.specs.Marks.{Noted, Within, with_dep};
 
 use crate::rules::layer_to;
-use crate::sets::DependencySet;
+use crate::sets::PlaceSet;
 use crate::sound::SoundCells;
 use wiring::{Cell, Cells, Dependency};
 
@@ -33,7 +33,7 @@ impl<T: Cells> SoundCells<'_, T> {
     }
 
     /// Notes the dependencies of the routes to d.
-    fn note_to(&self, d: u8, noted: &mut DependencySet)
+    fn note_to(&self, d: u8, noted: &mut PlaceSet<57600>)
         requires known { d < (net self.now.network).nodes }
         ensures { (D : Deps) → Noted (net self.now.network) noted.old.marks D → Noted (net self.now.network) noted.new.marks (fold (dep_at (net self.now.network) (T.Cells.meant self.now.cells.now) d) D (all_nodes (net self.now.network))) }
     {
@@ -41,15 +41,15 @@ impl<T: Cells> SoundCells<'_, T> {
             let Some(dependency) = self.dependency_at(d, n) else {
                 continue;
             };
-            noted.insert(dependency);
+            noted.insert(dependency.place());
         }
     }
 
     /// The dependencies of layer v.
-    pub(crate) fn dependencies_in(&self, v: u8) -> DependencySet
+    pub(crate) fn dependencies_in(&self, v: u8) -> PlaceSet<57600>
         ensures { Noted (net self.now.network) result.marks (deps_in (net self.now.network) (T.Cells.meant self.now.cells.now) v) }
     {
-        let mut noted = DependencySet::new();
+        let mut noted: PlaceSet<57600> = PlaceSet::new();
         for d in 0..self.network.wiring().nodes() {
             if layer_to(self.cells, d) != v {
                 continue;

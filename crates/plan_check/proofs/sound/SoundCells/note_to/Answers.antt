@@ -19,7 +19,7 @@ loop-n-preserved g c = λ D N.
     let w = net s.network in
     let f = dep_at w (g.T.Cells.meant s.cells.now) c.args.d in
     let p = c.in-Some.dependency in
-    rw c.insert.ensures (noted_more w f D c.loop-n.n c.loop-n.noted.marks p.channel p.on c.loop-n.noted.size (few_channels s.network.wiring.now) c.in-Some.ensures.within (c.in-Some.ensures.same (upto w f D c.loop-n.n c.loop-n.n)) (c.loop-n.invariant D N))
+    rw c.insert.ensures (rw c.place.ensures (noted_more w f D c.loop-n.n c.loop-n.noted.marks p.channel p.on c.loop-n.noted.size (few_channels s.network.wiring.now) c.in-Some.ensures.within (c.in-Some.ensures.same (upto w f D c.loop-n.n c.loop-n.n)) (c.loop-n.invariant D N)))
 
 pub returns : goal.returns
 returns g c = λ D N.
