@@ -1,10 +1,11 @@
 // Whether the dependencies of a layer have a cycle: channels that depend on nothing that is left are taken away until none can be.
-ghost use Rattle.std.specs.Prelude.{◌≡◌, ℕ, ◌<◌, true, false, not, length, slice_index};
+ghost use Rattle.std.specs.Prelude.{◌≡◌, ℕ, ◌<◌, ◌&&◌, true, false, not};
+ghost use Rattle.std.specs.List.{list_any, range_with_len};
 ghost use Rattle.wiring.specs.Networks.{net};
 ghost use Rattle.wiring.specs.Topologies.{channels};
 ghost use Rattle.plan_check.specs.Cycles.{Deps, acyclic};
 ghost use Rattle.plan_check.specs.Rules.{deps_in};
-ghost use Rattle.plan_check.specs.Marks.{Noted, HeldAmong, FreeAmong, Left, Swept, is_gone};
+ghost use Rattle.plan_check.specs.Marks.{Noted, Swept, is_gone, mark};
 
 use crate::sets::PlaceSet;
 use crate::sound::SoundCells;
@@ -20,15 +21,10 @@ struct Layer<'a> {
 impl Layer<'_> {
     /// Whether a channel depends on one of these that is left.
     fn is_held(&self, own: &[u8], gone: &PlaceSet<240>, channel: u8) -> bool
-        ensures held { result ≡ true → HeldAmong own.now self.now.noted.marks gone.now.marks channel }
-        ensures free { result ≡ false → FreeAmong own.now self.now.noted.marks gone.now.marks channel (length own.now) }
+        ensures { result ≡ list_any (λ e. mark self.now.noted.marks channel e && not (is_gone gone.now.marks e)) own.now }
     {
-        for &on in own {
-            if self.noted.contains(Dependency { channel, on }.place()) && !gone.contains(on as usize) {
-                return true;
-            }
-        }
-        false
+        own.iter()
+            .any(|&on| self.noted.contains(Dependency { channel, on }.place()) && !gone.contains(on as usize))
     }
 
     /// Takes away the channels that depend on nothing that is left, upward; whether there was one.
@@ -52,15 +48,9 @@ impl Layer<'_> {
 
     /// Whether a channel is left.
     fn any_left(&self, gone: &PlaceSet<240>) -> bool
-        ensures left { result ≡ true → Left gone.now.marks (channels (net self.now.network.now)) }
-        ensures all { result ≡ false → ((c : ℕ) → c < channels (net self.now.network.now) → is_gone gone.now.marks c ≡ true) }
+        ensures { result ≡ list_any (λ c. not (is_gone gone.now.marks c)) (range_with_len 0 (channels (net self.now.network.now))) }
     {
-        for c in 0..self.network.wiring().channels() {
-            if !gone.contains(c as usize) {
-                return true;
-            }
-        }
-        false
+        (0..self.network.wiring().channels()).any(|channel| !gone.contains(channel as usize))
     }
 
     /// Whether a channel stays however often they are taken away.
