@@ -33,14 +33,14 @@ impl Layer<'_> {
     {
         let wiring = self.network.wiring();
         let mut taken = false;
-        for c in 0..wiring.channels() {
-            if gone.contains(c as usize) {
+        for channel in 0..wiring.channels() {
+            if gone.contains(channel as usize) {
                 continue;
             }
-            if self.is_held(self.network.own(wiring.into(c)), gone, c) {
+            if self.is_held(self.network.own(wiring.into(channel)), gone, channel) {
                 continue;
             }
-            gone.insert(c as usize);
+            gone.insert(channel as usize);
             taken = true;
         }
         taken
@@ -64,14 +64,14 @@ impl Layer<'_> {
 }
 
 impl<T: Cells> SoundCells<'_, T> {
-    /// Whether the dependencies of layer v have a cycle.
-    pub(crate) fn has_cycle(&self, v: u8) -> bool
-        ensures { result ≡ not (acyclic (deps_in (net self.now.network) (T.Cells.meant self.now.cells.now) v)) }
+    /// Whether the dependencies of a layer have a cycle.
+    pub(crate) fn has_cycle(&self, layer: u8) -> bool
+        ensures { result ≡ not (acyclic (deps_in (net self.now.network) (T.Cells.meant self.now.cells.now) layer)) }
     {
-        let layer = Layer {
+        let kept = Layer {
             network: &self.network,
-            noted: self.dependencies_in(v),
+            noted: self.dependencies_in(layer),
         };
-        layer.cycle_stays()
+        kept.cycle_stays()
     }
 }
