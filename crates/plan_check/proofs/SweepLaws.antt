@@ -1,16 +1,54 @@
 -- Channels that depend on nothing that is left are taken away: what is gone is on no cycle, and where nothing more can go, what is
 -- left has one.
-use Rattle.std.proofs.Common.{◌≡◌, ℕ, zero, suc, ◌+◌, ◌<◌, ◌≤◌, Bool, true, false, cond, not, List, [], ◌∷◌, length, get_or, set, replicate, count_by, sym, refl, ap, ◌∙◌, subst, ⊎_elim, arith, below_more}
+use Rattle.std.proofs.Common.{◌≡◌, ℕ, zero, suc, ◌+◌, ◌<◌, ◌≤◌, Bool, true, false, cond, ◌&&◌, not, List, [], ◌∷◌, length, get_or, set, replicate, count_by, sym, refl, ap, ◌∙◌, subst, ⊎_elim, zero-add, arith, below_more}
 use Rattle.std.proofs.lemmas.List.Sums.{sum_by-set}
 use Rattle.std.proofs.ByRecursion.{All-get_or}
-use Rattle.std.proofs.lemmas.List.{get_or-set_same, get_or-set_other}
-use Rattle.std.proofs.lemmas.Bool.{cases_eq, false≢true, true≢false}
+use Rattle.std.proofs.lemmas.List.{get_or_default, get_or-set_same, get_or-set_other}
+use Rattle.std.specs.List.{list_any, range_with_len}
+use Rattle.std.proofs.lemmas.List.Folds.{Any-from_list_any, list_any_at}
+use Rattle.std.proofs.lemmas.List.FromFn.{length-range_with_len, get_or-range_with_len}
+use Rattle.std.proofs.lemmas.Bool.{cases_eq, and_parts, and_from, not-true, not_from_false, true_from_ne_false, false≢true, true≢false}
 use Rattle.wiring.specs.Topologies.{Topology, channels, from, into}
 use Rattle.wiring.specs.Owned.{own, Owns}
 use Rattle.plan_check.specs.Cycles.{Deps, acyclic, Linked}
 use Rattle.plan_check.specs.Marks.{mark, is_gone, Noted, Held, HeldAmong, FreeAmong, Stuck, Left, Grounded}
 use Rattle.plan_check.proofs.CycleLaws.{Has, acyclic_if_no_cycle, depth, depth_falls}
 use Rattle.plan_check.proofs.NotingLaws.{all_false}
+
+-- ---- what the chains of the code find
+
+module _ (es : List ℕ) (xs gone : List Bool) (c : ℕ) where
+  abbrev holds : ℕ → Bool
+  holds e = mark xs c e && not (is_gone gone e)
+
+  pub held_among : list_any holds es ≡ true → HeldAmong es xs gone c
+  held_among h =
+      let a = Any-from_list_any holds es h in
+      let same : get_or es a.0 0 ≡ a.1 = get_or_default es a.0 0 a.1 a.2 ∙ a.3 in
+      let b = and_parts _ _ (ap holds same ∙ a.4) in
+      (a.0, a.2, b.0, not-true _ b.1)
+
+  pub free_among : list_any holds es ≡ false → FreeAmong es xs gone c (length es)
+  free_among h i l m = true_from_ne_false _ (λ q. true≢false (sym (list_any_at holds es i 0 l (and_from _ _ m (not_from_false _ q))) ∙ h))
+
+module _ (gone : List Bool) (n : ℕ) where
+  abbrev stays : ℕ → Bool
+  stays c = not (is_gone gone c)
+
+  some_stays : list_any stays (range_with_len 0 n) ≡ true → Left gone n
+  some_stays h =
+      let a = Any-from_list_any stays (range_with_len 0 n) h in
+      let size = length-range_with_len 0 n in
+      let l : a.0 < n = (let m = a.2 in omega arith) in
+      let same = get_or-range_with_len 0 n a.0 a.1 l in
+      let at = a.3 in
+      (a.1, omega arith, not-true _ a.4)
+
+  none_stays : list_any stays (range_with_len 0 n) ≡ false → (c : ℕ) → c < n → is_gone gone c ≡ true
+  none_stays h c l =
+      let size = length-range_with_len 0 n in
+      let same : get_or (range_with_len 0 n) c 0 ≡ c = get_or-range_with_len 0 n c 0 l ∙ zero-add c in
+      true_from_ne_false _ (λ q. true≢false (sym (list_any_at stays (range_with_len 0 n) c 0 (omega arith) (ap stays same ∙ not_from_false _ q)) ∙ h))
 
 -- ---- by own channels
 
@@ -111,6 +149,6 @@ some_left w xs gone D m N s c h p = go (acyclic D) refl
 pub none_gone : (k : ℕ) (D : Deps) → Grounded D (replicate k false)
 none_gone k D c q = absurd (false≢true (sym (all_false k c) ∙ q))
 
-pub stays_answer : (w : Topology) (xs gone : List Bool) (D : Deps) (r : Bool) → channels w ≤ 240 → Noted w xs D → Stuck w xs gone → Grounded D gone → (r ≡ true → Left gone (channels w)) → (r ≡ false → (c : ℕ) → c < channels w → is_gone gone c ≡ true) → r ≡ not (acyclic D)
-stays_answer w xs gone D true m N s g l a = let f = l refl in sym (ap not (some_left w xs gone D m N s f.0 f.1 f.2))
-stays_answer w xs gone D false m N s g l a = sym (ap not (all_gone w xs gone D N g (a refl)))
+pub stays_answer : (w : Topology) (xs gone : List Bool) (D : Deps) (r : Bool) → channels w ≤ 240 → Noted w xs D → Stuck w xs gone → Grounded D gone → r ≡ list_any (stays gone (channels w)) (range_with_len 0 (channels w)) → r ≡ not (acyclic D)
+stays_answer w xs gone D true m N s g e = let f = some_stays gone (channels w) (sym e) in sym (ap not (some_left w xs gone D m N s f.0 f.1 f.2))
+stays_answer w xs gone D false m N s g e = sym (ap not (all_gone w xs gone D N g (none_stays gone (channels w) (sym e))))

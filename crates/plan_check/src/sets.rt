@@ -1,65 +1,30 @@
-// Sets of channels and of dependencies.
-ghost use Rattle.std.specs.Prelude.{◌≡◌, ◌+◌, ◌*◌, ◌<◌, true, false, length, replicate, slice_set};
-ghost use Rattle.plan_check.specs.Marks.{is_gone, mark};
+// Sets of places.
+ghost use Rattle.std.specs.Prelude.{◌≡◌, ◌<◌, true, false, length, replicate, slice_set, slice_index_or};
 
-use wiring::Dependency;
-
-/// A set of channels, marked at their places. Fixed memory: no `HashSet`.
+/// A set of places below N, each with a mark. Fixed memory: no `HashSet`.
 #[derive(Drop)]
-pub(crate) struct ChannelSet {
-    marks: [bool; 240],
-    ghost size: { length marks ≡ 240 },
+pub(crate) struct PlaceSet<const N: usize> {
+    marks: [bool; N],
+    ghost size: { length marks ≡ N },
 }
 
-impl ChannelSet {
-    pub(crate) fn new() -> ChannelSet
-        ensures { result.marks ≡ replicate 240 false }
+impl<const N: usize> PlaceSet<N> {
+    pub(crate) fn new() -> Self
+        ensures { result.marks ≡ replicate N false }
     {
-        ChannelSet {
-            marks: [false; 240],
-        }
+        PlaceSet { marks: [false; N] }
     }
 
-    pub(crate) fn insert(&mut self, channel: u8)
-        requires { channel < 240 }
-        ensures { self.new.marks ≡ slice_set self.old.marks channel true }
+    pub(crate) fn insert(&mut self, place: usize)
+        requires { place < N }
+        ensures { self.new.marks ≡ slice_set self.old.marks place true }
     {
-        self.marks[channel as usize] = true;
+        self.marks[place] = true;
     }
 
-    pub(crate) fn contains(&self, channel: u8) -> bool
-        ensures { result ≡ is_gone self.now.marks channel }
+    pub(crate) fn contains(&self, place: usize) -> bool
+        ensures { result ≡ slice_index_or self.now.marks place false }
     {
-        self.marks.get(channel as usize).copied().unwrap_or(false)
-    }
-}
-
-/// A set of dependencies, in a square of 240 on a side: that of channel c on channel e is marked at place 240 c + e. Fixed memory: no `HashSet`.
-#[derive(Drop)]
-pub(crate) struct DependencySet {
-    marks: [bool; 57600],
-    ghost size: { length marks ≡ 57600 },
-}
-
-impl DependencySet {
-    pub(crate) fn new() -> DependencySet
-        ensures { result.marks ≡ replicate 57600 false }
-    {
-        DependencySet {
-            marks: [false; 57600],
-        }
-    }
-
-    pub(crate) fn insert(&mut self, dependency: Dependency)
-        requires { (dependency.channel < 240) × (dependency.on < 240) }
-        ensures { self.new.marks ≡ slice_set self.old.marks (240 * dependency.channel + dependency.on) true }
-    {
-        self.marks[dependency.place()] = true;
-    }
-
-    pub(crate) fn contains(&self, dependency: Dependency) -> bool
-        ensures { result ≡ mark self.now.marks dependency.channel dependency.on }
-    {
-        self.marks.get(dependency.place()).copied().unwrap_or(false)
+        self.marks.get(place).copied().unwrap_or(false)
     }
 }
