@@ -2,3 +2,4 @@ pub mod Decks
 pub mod Views
 pub mod Makings
 pub mod Porting
+pub mod Errors

@@ -12,7 +12,7 @@ use wiring::Cell;
 impl<S: Store> Cards<S> {
     /// Whether a card is seated.
     fn find_card(&self, node: u8) -> Result<(), Fault>
-        ensures { result ≡ set_answer (cards_view self.now.nodes self.now.gates (S.Store.owned self.now.store) (S.Store.held self.now.store)) node }
+        ensures { result ≡ set_answer (⟦<Cards<S> as Bank>⟧.view self.now) node }
     {
         if self.seated(node) {
             Ok(())
@@ -23,7 +23,7 @@ impl<S: Store> Cards<S> {
 
     /// Whether a cell may be changed: a card is seated, it has the cell, and its gate is shut.
     fn may_change(&self, node: u8, destination: u8) -> Result<(), Fault>
-        ensures { result ≡ clear_answer (cards_view self.now.nodes self.now.gates (S.Store.owned self.now.store) (S.Store.held self.now.store)) node destination }
+        ensures { result ≡ clear_answer (⟦<Cards<S> as Bank>⟧.view self.now) node destination }
     {
         self.find_card(node)?;
         if destination >= 64 {

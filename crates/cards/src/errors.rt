@@ -1,5 +1,6 @@
 // Why no bank is made.
-ghost use Rattle.std.specs.Prelude.{◌≡◌};
+ghost use Rattle.std.specs.Prelude.{◌≡◌, Some};
+ghost use Rattle.cards.specs.Errors.{shown_error};
 
 use fault::Fault;
 use std::alloc::AllocError;
@@ -34,6 +35,8 @@ impl From<AllocError> for MakeError {
 }
 
 impl fmt::Display for MakeError {
+    ghost output = { λ e. Some (shown_error e) };
+
     fn fmt<W: fmt::Write>(&self, f: &mut fmt::Formatter<W>) -> fmt::Result {
         match self {
             MakeError::Refused(fault) => write!(f, "{fault}"),

@@ -4,7 +4,7 @@ ghost use Rattle.cards.specs.Decks.{changed, grid};
 
 /// The cells of 64 cards for 64 destinations, card by card.
 #[derive(Drop)]
-pub struct Grid<C> {
+pub(crate) struct Grid<C> {
     pub(crate) cells: Vec<C>,
     ghost whole: { vec_len cells ≡ 4096 },
 }

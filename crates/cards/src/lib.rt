@@ -14,7 +14,6 @@ mod stores;
 pub use channels::Channels;
 pub use decks::Cards;
 pub use errors::MakeError;
-pub use grids::Grid;
 pub use numbered::Numbered;
 pub use ports::PortCell;
 pub use stores::Store;

@@ -1,18 +1,18 @@
 // Banks from a wiring sheet.
 ghost use Rattle.std.specs.Prelude.{◌≡◌, MatchResult};
-ghost use Rattle.cards.specs.Views.{cards_view};
 ghost use Rattle.cards.specs.Makings.{MadeFrom, NotMade};
 
 use crate::decks::Cards;
 use crate::errors::MakeError;
 use crate::stores::Store;
+use bank::Bank;
 use sheet::read_wiring;
 use std::alloc::Global;
 
 impl<S: Store> Cards<S> {
     /// Cards for the nodes of the wiring in a sheet: gates shut, cells empty.
     pub fn new(heap: Global, sheet: &[u8]) -> Result<Cards<S>, MakeError>
-        ensures { MatchResult result (λ b. MadeFrom sheet.now (cards_view b.nodes b.gates (S.Store.owned b.store) (S.Store.held b.store))) (λ e. NotMade sheet.now e) }
+        ensures { MatchResult result (λ b. MadeFrom sheet.now (⟦<Cards<S> as Bank>⟧.view b)) (λ e. NotMade sheet.now e) }
     {
         let wiring = read_wiring(sheet)?;
         let nodes = wiring.nodes();

@@ -6,7 +6,7 @@ use std::error::Error;
 use std::fmt;
 
 /// The part of the product that a fault belongs to.
-#[derive(Clone, Copy, PartialEq, Debug)]
+#[derive(Clone, Copy, PartialEq, Eq, Debug)]
 pub enum Part {
     Sheet,
     Rack,
@@ -15,7 +15,7 @@ pub enum Part {
 }
 
 /// Where a fault lies: one value, or two.
-#[derive(Clone, Copy, PartialEq, Debug)]
+#[derive(Clone, Copy, PartialEq, Eq, Debug)]
 pub enum Place {
     One(u16),
     Two(u8, u8),

@@ -59,52 +59,55 @@ impl<A: Bank, B: Bank> Bank for Joined<A, B> {
 
     fn seated(&self, node: u8) -> bool {
         match self.side(node) {
-            Ok(Side::First(n)) => self.first.seated(n),
-            Ok(Side::Second(n)) => self.second.seated(n),
+            Ok(Side::First(number)) => self.first.seated(number),
+            Ok(Side::Second(number)) => self.second.seated(number),
             Err(_) => false,
         }
     }
 
     fn own(&self, node: u8, channel: u8) -> bool {
         match self.side(node) {
-            Ok(Side::First(n)) => self.first.own(n, channel),
-            Ok(Side::Second(n)) => self.second.own(n, channel),
+            Ok(Side::First(number)) => self.first.own(number, channel),
+            Ok(Side::Second(number)) => self.second.own(number, channel),
             Err(_) => false,
         }
     }
 
     fn gate(&self, node: u8) -> Result<bool, Fault> {
         match self.side(node)? {
-            Side::First(n) => self.first.gate(n),
-            Side::Second(n) => told(self.second.gate(n), node),
+            Side::First(number) => self.first.gate(number),
+            Side::Second(number) => told(self.second.gate(number), node),
         }
     }
 
     fn cell(&self, node: u8, destination: u8) -> Result<Cell, Fault> {
         match self.side(node)? {
-            Side::First(n) => self.first.cell(n, destination),
-            Side::Second(n) => told(self.second.cell(n, destination), node),
+            Side::First(number) => self.first.cell(number, destination),
+            Side::Second(number) => told(self.second.cell(number, destination), node),
         }
     }
 
     fn set_gate(&mut self, node: u8, open: bool) -> Result<(), Fault> {
         match self.side(node)? {
-            Side::First(n) => self.first.set_gate(n, open),
-            Side::Second(n) => told(self.second.set_gate(n, open), node),
+            Side::First(number) => self.first.set_gate(number, open),
+            Side::Second(number) => told(self.second.set_gate(number, open), node),
         }
     }
 
     fn clear(&mut self, node: u8, destination: u8) -> Result<(), Fault> {
         match self.side(node)? {
-            Side::First(n) => self.first.clear(n, destination),
-            Side::Second(n) => told(self.second.clear(n, destination), node),
+            Side::First(number) => self.first.clear(number, destination),
+            Side::Second(number) => told(self.second.clear(number, destination), node),
         }
     }
 
     fn put(&mut self, node: u8, destination: u8, channel: u8, layer: u8) -> Result<(), Fault> {
         match self.side(node)? {
-            Side::First(n) => self.first.put(n, destination, channel, layer),
-            Side::Second(n) => told(self.second.put(n, destination, channel, layer), node),
+            Side::First(number) => self.first.put(number, destination, channel, layer),
+            Side::Second(number) => told(
+                self.second.put(number, destination, channel, layer),
+                node,
+            ),
         }
     }
 }

@@ -1,5 +1,6 @@
 // Slot maps.
-ghost use Rattle.std.specs.Prelude.{◌≡◌, ◌↔◌, IsTrue, Ok, Err, nat_lt, slice_index};
+ghost use Rattle.std.specs.Prelude.{◌≡◌, ◌↔◌, IsTrue, Ok, Err, Some, nat_lt, slice_index};
+ghost use Rattle.fault.specs.Faults.{shown_fault};
 ghost use Rattle.fault.specs.declared.faults.Fault.TheVariants.{BadMap, NotSeated};
 ghost use Rattle.wiring.specs.Lists.{only_if};
 ghost use Rattle.piles.specs.Slots.{Small, Apart, slot_view};
@@ -8,6 +9,8 @@ use crate::places::told;
 use crate::slots::SlotMap;
 use bank::Bank;
 use fault::Fault;
+use std::error::Error;
+use std::fmt;
 use wiring::Cell;
 
 /// A bank that is handed back, and why.
@@ -16,6 +19,25 @@ pub struct Rejected<B> {
     pub fault: Fault,
     pub bank: B,
 }
+
+// By hand: a derive would ask that the bank can be shown.
+impl<B> fmt::Debug for Rejected<B> {
+    fn fmt<W: fmt::Write>(&self, f: &mut fmt::Formatter<W>) -> fmt::Result {
+        let fault = self.fault;
+        write!(f, "Rejected({fault:?})")
+    }
+}
+
+impl<B> fmt::Display for Rejected<B> {
+    ghost output = { λ r. Some (shown_fault r.fault) };
+
+    fn fmt<W: fmt::Write>(&self, f: &mut fmt::Formatter<W>) -> fmt::Result {
+        let fault = self.fault;
+        write!(f, "{fault}")
+    }
+}
+
+impl<B: Drop> Error for Rejected<B> {}
 
 /// Whether the numbers are those from 0 to 63 in some order.
 fn permutes(map: &[u8; 64]) -> bool
@@ -73,17 +95,12 @@ impl<B: Bank> Bank for SlotMap<B> {
     ghost view = { λ s. slot_view s.map (B.Bank.view s.below) };
 
     fn seated(&self, node: u8) -> bool {
-        match self.slot(node) {
-            Ok(slot) => self.below.seated(slot),
-            Err(_) => false,
-        }
+        self.slot(node).is_ok_and(|slot| self.below.seated(slot))
     }
 
     fn own(&self, node: u8, channel: u8) -> bool {
-        match self.slot(node) {
-            Ok(slot) => self.below.own(slot, channel),
-            Err(_) => false,
-        }
+        self.slot(node)
+            .is_ok_and(|slot| self.below.own(slot, channel))
     }
 
     fn gate(&self, node: u8) -> Result<bool, Fault> {

@@ -4,6 +4,7 @@ ghost use Rattle.piles.specs.Slots.{told_at, lifted};
 
 use fault::Fault;
 
+/// The fault with the number that was put to the top in place of the one below, where it names a card of the bank below.
 fn moved(fault: Fault, node: u8) -> Fault
     ensures { result ≡ told_at fault node }
 {

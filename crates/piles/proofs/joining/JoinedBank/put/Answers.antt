@@ -8,10 +8,10 @@ use Rattle.piles.proofs.joining.JoinedBank.put.Goals as goal
 pub returns-in-Second-clause-answer : goal.returns-in-Second-clause-answer
 returns-in-Second-clause-answer g c =
     let j = c.args.self.now in
-    c.told.ensures ∙ ap (lifted c.args.node) c.put-in-Second.ensures.answer ∙ second_put_answer j.split (g.A.Bank.view j.first) (g.B.Bank.view j.second) c.args.node _ (sym (ap Ok c.in-Second.is) ∙ sym c.in_ok-n.was ∙ c.side.ensures) c.args.destination c.args.channel c.args.layer
+    c.told.ensures ∙ ap (lifted c.args.node) c.put-in-Second.ensures.answer ∙ second_put_answer j.split (g.A.Bank.view j.first) (g.B.Bank.view j.second) c.args.node _ (sym (ap Ok c.in-Second.is) ∙ sym c.in_ok-number.was ∙ c.side.ensures) c.args.destination c.args.channel c.args.layer
 
 pub returns-in-Second-clause-after : goal.returns-in-Second-clause-after
 returns-in-Second-clause-after g c =
     let j = c.args.self.now in
     let a = g.A.Bank.view j.first in
-    ap (λ (v : View). joined_view j.split a v) c.put-in-Second.ensures.after ∙ second_put j.split a (g.B.Bank.view j.second) c.args.node _ (sym (ap Ok c.in-Second.is) ∙ sym c.in_ok-n.was ∙ c.side.ensures) c.args.destination c.args.channel c.args.layer
+    ap (λ (v : View). joined_view j.split a v) c.put-in-Second.ensures.after ∙ second_put j.split a (g.B.Bank.view j.second) c.args.node _ (sym (ap Ok c.in-Second.is) ∙ sym c.in_ok-number.was ∙ c.side.ensures) c.args.destination c.args.channel c.args.layer
