@@ -5,6 +5,7 @@ ghost use Rattle.std.specs.Prelude.{◌≡◌, ◌<◌, true, false, length, rep
 #[derive(Drop)]
 pub(crate) struct PlaceSet<const N: usize> {
     marks: [bool; N],
+    // tried: without it the proofs do not know the length of the array inside a loop.
     ghost size: { length marks ≡ N },
 }
 
