@@ -9,7 +9,7 @@ use Rattle.std.proofs.lemmas.List.Folds.{Any-from_list_any, list_any_at}
 use Rattle.std.proofs.lemmas.List.FromFn.{length-range_with_len, get_or-range_with_len}
 use Rattle.std.proofs.lemmas.Bool.{cases_eq, and_parts, and_from, not-true, not_from_false, true_from_ne_false, false≢true, true≢false}
 use Rattle.wiring.specs.Topologies.{Topology, channels, from, into}
-use Rattle.wiring.specs.Owned.{own, Owns}
+use Rattle.wiring.specs.Owned.{Owns}
 use Rattle.plan_check.specs.Cycles.{Deps, acyclic, Linked}
 use Rattle.plan_check.specs.Marks.{mark, is_gone, Noted, Held, HeldAmong, FreeAmong, Stuck, Left, Grounded}
 use Rattle.plan_check.proofs.CycleLaws.{Has, acyclic_if_no_cycle, depth, depth_falls}
@@ -18,21 +18,21 @@ use Rattle.plan_check.proofs.NotingLaws.{all_false}
 -- ---- what the chains of the code find
 
 module _ (es : List ℕ) (xs gone : List Bool) (c : ℕ) where
-  abbrev holds : ℕ → Bool
+  abbrev pub holds : ℕ → Bool
   holds e = mark xs c e && not (is_gone gone e)
 
-  pub held_among : list_any holds es ≡ true → HeldAmong es xs gone c
+  held_among : list_any holds es ≡ true → HeldAmong es xs gone c
   held_among h =
       let a = Any-from_list_any holds es h in
       let same : get_or es a.0 0 ≡ a.1 = get_or_default es a.0 0 a.1 a.2 ∙ a.3 in
       let b = and_parts _ _ (ap holds same ∙ a.4) in
       (a.0, a.2, b.0, not-true _ b.1)
 
-  pub free_among : list_any holds es ≡ false → FreeAmong es xs gone c (length es)
+  free_among : list_any holds es ≡ false → FreeAmong es xs gone c (length es)
   free_among h i l m = true_from_ne_false _ (λ q. true≢false (sym (list_any_at holds es i 0 l (and_from _ _ m (not_from_false _ q))) ∙ h))
 
 module _ (gone : List Bool) (n : ℕ) where
-  abbrev stays : ℕ → Bool
+  abbrev pub stays : ℕ → Bool
   stays c = not (is_gone gone c)
 
   some_stays : list_any stays (range_with_len 0 n) ≡ true → Left gone n
@@ -52,20 +52,22 @@ module _ (gone : List Bool) (n : ℕ) where
 
 -- ---- by own channels
 
-module _ (w : Topology) (xs gone : List Bool) (c : ℕ) (owns : Owns w (into w c) (own w (into w c))) where
+module _ (w : Topology) (xs gone : List Bool) (c : ℕ) (es : List ℕ) (owns : Owns w (into w c) es) where
   -- what is held among the channels of the node where c ends is held
-  pub held_own : HeldAmong (own w (into w c)) xs gone c → Held w xs gone c
-  held_own h = (get_or (own w (into w c)) h.0 0, (All-get_or (λ e. (e < channels w) × (from w e ≡ into w c)) (own w (into w c)) h.0 0 h.1 owns.start).0, h.2, h.3)
+  pub held_own : list_any (holds es xs gone c) es ≡ true → Held w xs gone c
+  held_own q =
+      let h = held_among es xs gone c q in
+      (get_or es h.0 0, (All-get_or (λ e. (e < channels w) × (from w e ≡ into w c)) es h.0 0 h.1 owns.start).0, h.2, h.3)
 
   -- and only those can hold it
-  pub free_own : (D : Deps) → Noted w xs D → channels w ≤ 240 → FreeAmong (own w (into w c)) xs gone c (length (own w (into w c))) → (e : ℕ) → Has D c e → is_gone gone e ≡ true
-  free_own D N few free e h =
+  pub free_own : (D : Deps) → Noted w xs D → channels w ≤ 240 → list_any (holds es xs gone c) es ≡ false → (e : ℕ) → Has D c e → is_gone gone e ≡ true
+  free_own D N few q e h =
       let f = N.follows c e h in
       let a = f.0 in
       let b = f.1 in
       let k = owns.every e b f.2 in
-      let same : get_or (own w (into w c)) k.0 0 ≡ e = k.2 0 in
-      subst (λ x. is_gone gone x ≡ true) same (free k.0 k.1 (ap (mark xs c) same ∙ N.same c e (omega arith) (omega arith) ∙ h))
+      let same : get_or es k.0 0 ≡ e = k.2 0 in
+      subst (λ x. is_gone gone x ≡ true) same (free_among es xs gone c q k.0 k.1 (ap (mark xs c) same ∙ N.same c e (omega arith) (omega arith) ∙ h))
 
 -- ---- what is gone
 

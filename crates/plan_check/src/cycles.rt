@@ -23,8 +23,8 @@ impl Layer<'_> {
     fn is_held(&self, own: &[u8], gone: &PlaceSet<240>, channel: u8) -> bool
         ensures { result ≡ list_any (λ e. mark self.now.noted.marks channel e && not (is_gone gone.now.marks e)) own.now }
     {
-        own.iter()
-            .any(|&on| self.noted.contains(Dependency { channel, on }.place()) && !gone.contains(on as usize))
+        own.iter().any(|&on| self.noted.contains(Dependency { channel, on }.place())
+            && !gone.contains(on as usize))
     }
 
     /// Takes away the channels that depend on nothing that is left, upward; whether there was one.
@@ -34,14 +34,12 @@ impl Layer<'_> {
         let wiring = self.network.wiring();
         let mut taken = false;
         for channel in 0..wiring.channels() {
-            if gone.contains(channel as usize) {
-                continue;
+            if !gone.contains(channel as usize)
+                && !self.is_held(self.network.own(wiring.into(channel)), gone, channel)
+            {
+                gone.insert(channel as usize);
+                taken = true;
             }
-            if self.is_held(self.network.own(wiring.into(channel)), gone, channel) {
-                continue;
-            }
-            gone.insert(channel as usize);
-            taken = true;
         }
         taken
     }
@@ -57,7 +55,7 @@ impl Layer<'_> {
     fn cycle_stays(&self) -> bool
         ensures { (D : Deps) → Noted (net self.now.network.now) self.now.noted.marks D → result ≡ not (acyclic D) }
     {
-        let mut gone: PlaceSet<240> = PlaceSet::new();
+        let mut gone = PlaceSet::new();
         while self.sweep(&mut gone) {}
         self.any_left(&gone)
     }

@@ -48,7 +48,7 @@ impl<T: Cells> SoundCells<'_, T> {
     pub(crate) fn dependencies_in(&self, layer: u8) -> PlaceSet<57600>
         ensures { Noted (net self.now.network) result.marks (deps_in (net self.now.network) (T.Cells.meant self.now.cells.now) layer) }
     {
-        let mut noted: PlaceSet<57600> = PlaceSet::new();
+        let mut noted = PlaceSet::new();
         for destination in 0..self.network.wiring().nodes() {
             if layer_to(self.cells, destination) == layer {
                 self.note_to(destination, &mut noted);

@@ -1,10 +1,11 @@
-// Sets of places.
+// A set of numbers below a limit.
 ghost use Rattle.std.specs.Prelude.{◌≡◌, ◌<◌, true, false, length, replicate, slice_set, slice_index_or};
 
-/// A set of places below N, each with a mark. Fixed memory: no `HashSet`.
+/// Places below N, marked where the set has them. Fixed memory: no `HashSet`.
 #[derive(Drop)]
 pub(crate) struct PlaceSet<const N: usize> {
     marks: [bool; N],
+    // tried: without it the proofs do not know the length of the array inside a loop.
     ghost size: { length marks ≡ N },
 }
 

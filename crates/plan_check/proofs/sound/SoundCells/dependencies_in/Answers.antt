@@ -19,8 +19,8 @@ loop-destination-preserved g c =
     let l = c.loop-destination in
     let before = upto w f [] l.destination l.destination in
     elim c.if-layer_to-layer.branch [
-      then-layer_to-layer b ↦ rw b.noted-is (noted_step w f [] l.destination b.note_to.new.noted.marks (fold (dep_at w t l.destination) before (all_nodes w)) (deps_yes w t c.args.layer l.destination before (sym c.layer_to.ensures ∙ b.if-layer_to-layer.true)) (b.note_to.ensures before l.invariant))
-    | else-layer_to-layer b ↦ rw b.noted-is (noted_idle w f [] l.destination l.noted.marks (deps_no w t c.args.layer l.destination before (λ e. b.if-layer_to-layer.false (c.layer_to.ensures ∙ e))) l.invariant)
+      | then-layer_to-layer b ↦ rw b.noted-is (noted_step w f [] l.destination b.note_to.new.noted.marks (fold (dep_at w t l.destination) before (all_nodes w)) (deps_yes w t c.args.layer l.destination before (sym c.layer_to.ensures ∙ b.if-layer_to-layer.true)) (b.note_to.ensures before l.invariant))
+      | else-layer_to-layer b ↦ rw b.noted-is (noted_idle w f [] l.destination l.noted.marks (deps_no w t c.args.layer l.destination before (λ e. b.if-layer_to-layer.false (c.layer_to.ensures ∙ e))) l.invariant)
     ]
 
 pub returns : goal.returns

@@ -15,8 +15,8 @@ loop-node-preserved g c = λ D N.
     let l = c.loop-node in
     let before = upto w f D l.node l.node in
     elim c.match-dependency_at.branch [
-      in-Some b ↦ let p = b.in-Some.dependency in rw b.noted-is (rw b.insert.ensures (rw b.place.ensures (noted_more w f D l.node l.noted.marks p.channel p.on l.noted.size (few_channels s.network.wiring.now) b.in-Some.ensures.within (b.in-Some.ensures.same before) (l.invariant D N))))
-    | in_default b ↦ rw b.noted-is (noted_idle w f D l.node l.noted.marks (b.in_default.ensures.same before) (l.invariant D N))
+      | in-Some b ↦ let p = b.in-Some.dependency in rw b.noted-is (rw b.insert.ensures (rw b.place.ensures (noted_more w f D l.node l.noted.marks p.channel p.on l.noted.size (few_channels s.network.wiring.now) b.in-Some.ensures.within (b.in-Some.ensures.same before) (l.invariant D N))))
+      | in_default b ↦ rw b.noted-is (noted_idle w f D l.node l.noted.marks (b.in_default.ensures.same before) (l.invariant D N))
     ]
 
 pub returns : goal.returns
