@@ -62,8 +62,8 @@ fn turned() -> [u8; 64] {
 fn make_cabinet(heap: Global) -> anyhow::Result<Joined<PortCards, SlotMap<PortCards>>> {
     let first = PortCards::new(heap, &LINE)?;
     let below = PortCards::new(heap, &LINE)?;
-    let second = SlotMap::new(turned(), below).map_err(|rejected| rejected.fault)?;
-    let cabinet = Joined::new(1, first, second).map_err(|rejected| rejected.fault)?;
+    let second = SlotMap::new(turned(), below)?;
+    let cabinet = Joined::new(1, first, second)?;
     Ok(cabinet)
 }
 
