@@ -101,14 +101,14 @@ fn turned(first: [u8; 3]) -> [u8; 64] {
 
 fn behind(heap: Global) -> Result<SlotMap<SlotMap<PortCards>>, Fail> {
     let ports = PortCards::new(heap, &LINE)?;
-    let below = SlotMap::new(turned([2, 0, 1]), ports).map_err(|rejected| rejected.fault)?;
-    let pile = SlotMap::new(turned([1, 2, 0]), below).map_err(|rejected| rejected.fault)?;
+    let below = SlotMap::new(turned([2, 0, 1]), ports)?;
+    let pile = SlotMap::new(turned([1, 2, 0]), below)?;
     Ok(pile)
 }
 
 fn pile(heap: Global) -> Result<Pile, Fail> {
     let flat = FlatBank::new(heap, &LINE)?;
-    let pile = Joined::new(64, behind(heap)?, flat).map_err(|rejected| rejected.fault)?;
+    let pile = Joined::new(64, behind(heap)?, flat)?;
     Ok(pile)
 }
 
@@ -123,7 +123,7 @@ fn carry_out<B: Bank>(bank: &mut B, call: Call) -> Result<(), Fault> {
 }
 
 /// What a bank tells of a card and a destination.
-#[derive(Clone, Copy, PartialEq, Debug)]
+#[derive(Clone, Copy, PartialEq, Eq, Debug)]
 struct Answers {
     seated: bool,
     gate: Result<bool, Fault>,

@@ -7,7 +7,7 @@ use cards::{FlatBank, PortCards};
 use fault::Fault;
 use piles::{Joined, SlotMap};
 use std::alloc::Global;
-use std::io;
+use std::{array, io};
 use wiring::{Cell, Cells};
 
 /// Writes the cells of one destination.
@@ -48,12 +48,9 @@ fn count_same<A: Bank, B: Bank>(a: &A, b: &B) -> usize {
 }
 
 /// The numbers 0, 1 and 2 go to the slots 1, 2 and 0, and all others stay.
-// The tests have the like: a program and a crate of tests share no code.
+// The tests have the like: three lines, in a program and in a crate of tests.
 fn turned() -> [u8; 64] {
-    let mut map = [0; 64];
-    for (slot, node) in map.iter_mut().zip(0..) {
-        *slot = node;
-    }
+    let mut map = array::from_fn(|node| node as u8);
     map[0..3].copy_from_slice(&[1, 2, 0]);
     map
 }
@@ -62,8 +59,8 @@ fn turned() -> [u8; 64] {
 fn make_cabinet(heap: Global) -> anyhow::Result<Joined<PortCards, SlotMap<PortCards>>> {
     let first = PortCards::new(heap, &LINE)?;
     let below = PortCards::new(heap, &LINE)?;
-    let second = SlotMap::new(turned(), below).map_err(|rejected| rejected.fault)?;
-    let cabinet = Joined::new(1, first, second).map_err(|rejected| rejected.fault)?;
+    let second = SlotMap::new(turned(), below)?;
+    let cabinet = Joined::new(1, first, second)?;
     Ok(cabinet)
 }
 

@@ -63,6 +63,7 @@ impl Grid {
         ensures { result.cells ≡ (if nat_lt place 9 then slice_set self.cells place cell else self.cells) }
     {
         let mut cells = self.cells;
+        // By index: after a `get_mut` no element is known.
         if place < 9 {
             cells[place] = cell;
         }
@@ -75,6 +76,6 @@ impl Cells for Grid {
 
     fn cell(&self, destination: u8, node: u8) -> Cell {
         let at = 3 * destination as usize + node as usize;
-        if at < 9 { self.cells[at] } else { Cell::Empty }
+        self.cells.get(at).copied().unwrap_or(Cell::Empty)
     }
 }

@@ -21,13 +21,18 @@ fn digit(byte: u8) -> Option<u8>
     }
 }
 
+/// The byte of two digits, where both are digits.
+fn byte_of(high: u8, low: u8) -> Option<u8> {
+    Some(16 * digit(high)? + digit(low)?)
+}
+
 /// The bytes that a text spells, two digits a byte; `-` spells none.
 fn decoded(heap: Global, text: &str) -> anyhow::Result<Vec<u8>> {
     let mut bytes = Vec::new(heap);
-    for pair in text.as_bytes().chunks_exact(2) {
-        let high = digit(pair[0]).context("not a hexadecimal digit")?;
-        let low = digit(pair[1]).context("not a hexadecimal digit")?;
-        bytes.push(16 * high + low)?;
+    let (pairs, _) = text.as_bytes().as_chunks::<2>();
+    for &[high, low] in pairs {
+        let byte = byte_of(high, low).context("not a hexadecimal digit")?;
+        bytes.push(byte)?;
     }
     Ok(bytes)
 }
