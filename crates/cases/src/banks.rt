@@ -4,6 +4,7 @@ use cards::{FlatBank, PortCards};
 use fault::Fault;
 use piles::{Joined, SlotMap};
 use std::alloc::Global;
+use std::array;
 use std::test::Fail;
 use wiring::Cell;
 
@@ -89,12 +90,9 @@ const CALLS: [Call; 60] = [
 type Pile = Joined<SlotMap<SlotMap<PortCards>>, FlatBank>;
 
 /// The first three slots as given, and all others straight.
-// The tour has the like: a program and a crate of tests share no code.
+// The tour has the like: three lines, in a program and in a crate of tests.
 fn turned(first: [u8; 3]) -> [u8; 64] {
-    let mut map = [0; 64];
-    for (slot, node) in map.iter_mut().zip(0..) {
-        *slot = node;
-    }
+    let mut map = array::from_fn(|node| node as u8);
     map[0..3].copy_from_slice(&first);
     map
 }
