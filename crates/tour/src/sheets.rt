@@ -19,3 +19,8 @@ pub(crate) const TRIANGLE: [u8; 24] = [
 pub(crate) const CUT_OFF: [u8; 20] = [
     3, b'L', 0, 16, 0, 2, b'N', 0, 18, 0, 1, b'V', 0, 19, 0, 1, 0, 1, 3, 1,
 ];
+
+/// Five nodes in a ring of links 0–1, 1–2, 2–3, 3–4 and 4–0, one layer.
+pub(crate) const RING: [u8; 28] = [
+    3, b'L', 0, 16, 0, 10, b'N', 0, 26, 0, 1, b'V', 0, 27, 0, 1, 0, 1, 1, 2, 2, 3, 3, 4, 4, 0, 5, 1,
+];
