@@ -22,7 +22,7 @@ pub enum Place {
 }
 
 /// What is wrong, with the values that say where. `specs/Faults.antt` gives each case its number, place and part.
-#[derive(Clone, Copy, PartialEq, Eq, Debug)]
+#[derive(Clone, Copy, PartialEq, Eq)]
 pub enum Fault {
     /// The count of contents lines is missing or wrong, or the contents are cut short.
     Contents,
@@ -204,6 +204,15 @@ impl fmt::Display for Fault {
         let number = self.number();
         let place = self.place();
         write!(f, "{number} {place}")
+    }
+}
+
+/// As on the display, so that a failed test shows the number and the place that the documents use.
+impl fmt::Debug for Fault {
+    ghost debug_output = { λ x. Some (shown_fault x) };
+
+    fn fmt<W: fmt::Write>(&self, f: &mut fmt::Formatter<W>) -> fmt::Result {
+        write!(f, "{self}")
     }
 }
 

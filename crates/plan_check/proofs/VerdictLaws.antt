@@ -15,22 +15,19 @@ use Rattle.plan_check.proofs.FirstLaws.{let_pass}
 use Rattle.plan_check.proofs.RouteLaws.{routes_arrive}
 use Rattle.plan_check.proofs.PacketLaws.{no_deadlock}
 
-pub record Judges (w : Topology) (t : Table) (r : Judged) : Type 0 where
-  pub answer : r ≡ judged (verdict w t)
-  pub exact : Exact w t r
-  pub arrives : Arrives w t r
-  pub moves : Moves w t r
+-- what an answer says that is the verdict on a valid wiring
+module _ (w : Topology) (t : Table) (ok : Valid w) (r : Judged) (is : r ≡ judged (verdict w t)) where
+  pass : r ≡ Ok tt → Passes w t
+  pass f = (verdict_exact w t ok).0 (let_pass _ (sym f ∙ is))
 
-pub judged_laws : (w : Topology) (t : Table) → Valid w → (r : Judged) → r ≡ judged (verdict w t) → Judges w t r
-judged_laws w t ok r q = record {
-  answer = q;
-  exact = (pass, λ p. q ∙ ap judged ((verdict_exact w t ok).1 p));
-  arrives = λ f. routes_arrive w t ok (pass f);
-  moves = λ f. no_deadlock w t ok (pass f);
-}
-  where
-    pass : r ≡ Ok tt → Passes w t
-    pass f = (verdict_exact w t ok).0 (let_pass _ (sym f ∙ q))
+  pub judged_exact : Exact w t r
+  judged_exact = (pass, λ p. is ∙ ap judged ((verdict_exact w t ok).1 p))
+
+  pub judged_arrives : Arrives w t r
+  judged_arrives f = routes_arrive w t ok (pass f)
+
+  pub judged_moves : Moves w t r
+  judged_moves f = no_deadlock w t ok (pass f)
 
 -- a faulty cell decides, and after all cells the layers
 module _ (w : Topology) (t : Table) where

@@ -15,13 +15,13 @@ use wiring::{Cells, Dependency, Network};
 #[derive(Drop)]
 struct Layer<'a> {
     network: &'a Network<'a>,
-    noted: PlaceSet<57600>,
+    noted: &'a PlaceSet<57600>,
 }
 
 impl Layer<'_> {
     /// Whether a channel depends on one of these that is left.
     fn is_held(&self, own: &[u8], gone: &PlaceSet<240>, channel: u8) -> bool
-        ensures { result ≡ list_any (λ e. mark self.now.noted.marks channel e && not (is_gone gone.now.marks e)) own.now }
+        ensures { result ≡ list_any (λ e. mark self.now.noted.now.marks channel e && not (is_gone gone.now.marks e)) own.now }
     {
         own.iter().any(|&on| self.noted.contains(Dependency { channel, on }.place())
             && !gone.contains(on as usize))
@@ -29,7 +29,7 @@ impl Layer<'_> {
 
     /// Takes away the channels that depend on nothing that is left, upward; whether there was one.
     fn sweep(&self, gone: &mut PlaceSet<240>) -> bool
-        ensures { Swept (net self.now.network.now) self.now.noted.marks gone.old.marks gone.new.marks result }
+        ensures { Swept (net self.now.network.now) self.now.noted.now.marks gone.old.marks gone.new.marks result }
     {
         let wiring = self.network.wiring();
         let mut taken = false;
@@ -53,7 +53,7 @@ impl Layer<'_> {
 
     /// Whether a channel stays however often they are taken away.
     fn cycle_stays(&self) -> bool
-        ensures { (D : Deps) → Noted (net self.now.network.now) self.now.noted.marks D → result ≡ not (acyclic D) }
+        ensures { (D : Deps) → Noted (net self.now.network.now) self.now.noted.now.marks D → result ≡ not (acyclic D) }
     {
         let mut gone = PlaceSet::new();
         while self.sweep(&mut gone) {}
@@ -66,9 +66,11 @@ impl<T: Cells> SoundCells<'_, T> {
     pub(crate) fn has_cycle(&self, layer: u8) -> bool
         ensures { result ≡ not (acyclic (deps_in (net self.now.network) (T.Cells.meant self.now.cells.now) layer)) }
     {
+        let mut noted = PlaceSet::new();
+        self.note_layer(layer, &mut noted);
         let kept = Layer {
             network: &self.network,
-            noted: self.dependencies_in(layer),
+            noted: &noted,
         };
         kept.cycle_stays()
     }

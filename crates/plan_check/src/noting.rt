@@ -44,16 +44,15 @@ impl<T: Cells> SoundCells<'_, T> {
         }
     }
 
-    /// The dependencies of a layer.
-    pub(crate) fn dependencies_in(&self, layer: u8) -> PlaceSet<57600>
-        ensures { Noted (net self.now.network) result.marks (deps_in (net self.now.network) (T.Cells.meant self.now.cells.now) layer) }
+    /// Notes the dependencies of a layer in an empty set, which is lent: handed over by value, it would be copied.
+    pub(crate) fn note_layer(&self, layer: u8, noted: &mut PlaceSet<57600>)
+        requires none { Noted (net self.now.network) noted.old.marks [] }
+        ensures { Noted (net self.now.network) noted.new.marks (deps_in (net self.now.network) (T.Cells.meant self.now.cells.now) layer) }
     {
-        let mut noted = PlaceSet::new();
         for destination in 0..self.network.wiring().nodes() {
             if layer_to(self.cells, destination) == layer {
-                self.note_to(destination, &mut noted);
+                self.note_to(destination, noted);
             }
         }
-        noted
     }
 }

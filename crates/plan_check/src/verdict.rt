@@ -37,6 +37,13 @@ impl<'a, T: Cells> SoundCells<'a, T> {
     }
 }
 
+/// Refuses cells for the first rule that they break.
+fn judge<T: Cells>(candidate: &Candidate<T>) -> Result<(), Fault>
+    ensures { result ≡ judged (verdict (topology candidate.now.wiring.now) (T.Cells.meant candidate.now.cells.now)) }
+{
+    SoundCells::new(candidate)?.check_layers()
+}
+
 /// Judges a table of cells for a wiring. Cells that pass lead everywhere, and packets on their routes never wait in a circle.
 pub fn check_cells<T: Cells>(wiring: &Wiring, cells: &T) -> Result<(), Fault>
     ensures answer { result ≡ judged (verdict (topology wiring.now) (T.Cells.meant cells.now)) }
@@ -44,6 +51,5 @@ pub fn check_cells<T: Cells>(wiring: &Wiring, cells: &T) -> Result<(), Fault>
     ensures arrives { Arrives (topology wiring.now) (T.Cells.meant cells.now) result }
     ensures moves { Moves (topology wiring.now) (T.Cells.meant cells.now) result }
 {
-    let candidate = Candidate { wiring, cells };
-    SoundCells::new(&candidate)?.check_layers()
+    judge(&Candidate { wiring, cells })
 }

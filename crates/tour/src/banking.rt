@@ -2,6 +2,7 @@
 use crate::grid::Grid;
 use crate::sheets::LINE;
 use crate::showing::show;
+use anyhow::anyhow;
 use bank::Bank;
 use cards::{FlatBank, PortCards};
 use fault::Fault;
@@ -55,10 +56,14 @@ fn turned() -> [u8; 64] {
     map
 }
 
+fn make_ports(heap: Global) -> anyhow::Result<PortCards> {
+    PortCards::new(heap, &LINE).map_err(|_| anyhow!("no port cards are made"))
+}
+
 /// Node 0 stands in port cards, nodes 1 and 2 behind a slot map in others.
 fn make_cabinet(heap: Global) -> anyhow::Result<Joined<PortCards, SlotMap<PortCards>>> {
-    let first = PortCards::new(heap, &LINE)?;
-    let below = PortCards::new(heap, &LINE)?;
+    let first = make_ports(heap)?;
+    let below = make_ports(heap)?;
     let second = SlotMap::new(turned(), below)?;
     let cabinet = Joined::new(1, first, second)?;
     Ok(cabinet)
@@ -76,7 +81,8 @@ fn show_refusals<B: Bank>(rt: &impl Print, bank: &mut B) -> io::Result<()> {
 
 /// Writes a plan into two banks of different make, and shows what they refuse.
 pub(crate) fn fill_banks(rt: &HostRuntime) -> anyhow::Result<()> {
-    let mut flat = FlatBank::new(rt.alloc(), &LINE)?;
+    let flat = FlatBank::new(rt.alloc(), &LINE);
+    let mut flat = flat.map_err(|_| anyhow!("no flat bank is made"))?;
     let mut cabinet = make_cabinet(rt.alloc())?;
     let written = write_all(&mut flat, &Grid::line());
     show(rt, "plan into a flat bank", written, "done")?;

@@ -1,7 +1,7 @@
 pub mod FirstLaws
+pub mod EndLaws
 pub mod UpLaws
 pub mod LedLaws
-pub mod MadeLaws
 pub mod RoomLaws
 pub mod DescentLaws
 pub mod WayLaws

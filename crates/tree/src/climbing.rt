@@ -8,7 +8,6 @@ ghost use Rattle.tree.specs.Trees.{net_of, ups_of};
 
 use crate::tables::at_node;
 use crate::trees::EscapeTree;
-use std::array;
 use wiring::Network;
 
 /// A node's level, 0 where it has none.
@@ -46,12 +45,11 @@ impl<'a> EscapeTree<'a> {
     {
         let wiring = network.wiring();
         let levels = wiring.levels(root);
-        let ups = array::from_fn(
-            |node|
-                requires { node < 64 }
-                ensures { result ≡ up_among (net network.entry.now) levels node }
-            { up_channel(network, &levels, node as u8) },
-        );
+        let mut ups = [None; 64];
+        // Not `array::from_fn`: it would ask at each of 64 places whether there is a node.
+        for node in 0..wiring.nodes() {
+            ups[node as usize] = up_channel(network, &levels, node);
+        }
         EscapeTree { wiring, root, ups }
     }
 

@@ -31,7 +31,10 @@ fn decoded(heap: Global, text: &str) -> anyhow::Result<Vec<u8>> {
     let mut bytes = Vec::new(heap);
     let (pairs, _) = text.as_bytes().as_chunks::<2>();
     for &[high, low] in pairs {
-        let byte = byte_of(high, low).context("not a hexadecimal digit")?;
+        // Not by `context`: it would make the room for an error at each byte.
+        let Some(byte) = byte_of(high, low) else {
+            return Err(anyhow!("not a hexadecimal digit"));
+        };
         bytes.push(byte)?;
     }
     Ok(bytes)

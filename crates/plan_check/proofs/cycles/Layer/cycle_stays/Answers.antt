@@ -11,4 +11,4 @@ returns c = λ D N.
     let s = c.args.self.now in
     let w = net s.network.now in
     let swept = c.sweep.ensures in
-    stays_answer w s.noted.marks c.sweep.new.gone.marks D c.any_left.result (few_channels s.network.now.wiring.now) N (swept.stuck c.loop-test.false) (swept.grounded D N (c.loop.invariant D N)) c.any_left.ensures
+    stays_answer w s.noted.now.marks c.sweep.new.gone.marks D c.any_left.result (few_channels s.network.now.wiring.now) N (swept.stuck c.loop-test.false) (swept.grounded D N (c.loop.invariant D N)) c.any_left.ensures

@@ -13,7 +13,7 @@ pub loop-channel-preserved : goal.loop-channel-preserved
 loop-channel-preserved c =
     let s = c.args.self.now in
     let w = net s.network.now in
-    let xs = s.noted.marks in
+    let xs = s.noted.now.marks in
     let l = c.loop-channel in
     let size = l.gone.size in
     let few = few_channels s.network.now.wiring.now in

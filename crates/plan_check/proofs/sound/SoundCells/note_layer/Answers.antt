@@ -3,12 +3,12 @@ use Rattle.wiring.specs.Lists.{fold}
 use Rattle.wiring.specs.Networks.{net}
 use Rattle.wiring.specs.Topologies.{Topology, all_nodes}
 use Rattle.plan_check.specs.Rules.{dep_at, deps_of}
-use Rattle.plan_check.proofs.NotingLaws.{none_noted, deps_yes, deps_no, upto, noted_idle, noted_step, noted_end}
-use Rattle.plan_check.proofs.sound.SoundCells.dependencies_in.Goals as goal
-use Rattle.plan_check.proofs.sound.SoundCells.dependencies_in.Goals.{then-layer_to-layer, else-layer_to-layer}
+use Rattle.plan_check.proofs.NotingLaws.{deps_yes, deps_no, upto, noted_idle, noted_step, noted_end}
+use Rattle.plan_check.proofs.sound.SoundCells.note_layer.Goals as goal
+use Rattle.plan_check.proofs.sound.SoundCells.note_layer.Goals.{then-layer_to-layer, else-layer_to-layer}
 
 pub loop-destination-init : goal.loop-destination-init
-loop-destination-init g c = rw c.new-noted.ensures (none_noted (net c.args.self.now.network) 57600)
+loop-destination-init g c = c.requires.none
 
 pub loop-destination-preserved : goal.loop-destination-preserved
 loop-destination-preserved g c =
