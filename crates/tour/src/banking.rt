@@ -56,6 +56,10 @@ fn turned() -> [u8; 64] {
     map
 }
 
+fn make_flat(heap: Global) -> anyhow::Result<FlatBank> {
+    FlatBank::new(heap, &LINE).map_err(|_| anyhow!("no flat bank is made"))
+}
+
 fn make_ports(heap: Global) -> anyhow::Result<PortCards> {
     PortCards::new(heap, &LINE).map_err(|_| anyhow!("no port cards are made"))
 }
@@ -81,8 +85,7 @@ fn show_refusals<B: Bank>(rt: &impl Print, bank: &mut B) -> io::Result<()> {
 
 /// Writes a plan into two banks of different make, and shows what they refuse.
 pub(crate) fn fill_banks(rt: &HostRuntime) -> anyhow::Result<()> {
-    let flat = FlatBank::new(rt.alloc(), &LINE);
-    let mut flat = flat.map_err(|_| anyhow!("no flat bank is made"))?;
+    let mut flat = make_flat(rt.alloc())?;
     let mut cabinet = make_cabinet(rt.alloc())?;
     let written = write_all(&mut flat, &Grid::line());
     show(rt, "plan into a flat bank", written, "done")?;
